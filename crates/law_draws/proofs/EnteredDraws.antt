@@ -21,7 +21,7 @@ use Rattle.law_rights.specs.sf_actor.declared.holding.Holding.{Holding}
 use Rattle.law_rights.specs.sf_actor.declared.holding.Holding.TheVariants as holding
 use Rattle.law_rights.specs.sf_actor.Desks.{mark_among}
 use Rattle.law_rights.specs.sf_actor.Makers.{BufferOf, Maker, Run, buffer_in, followed, is_before, same_maker}
-use Rattle.law_rights.specs.sf_actor.Parts.{token_of, turn_held}
+use Rattle.law_rights.specs.sf_actor.Holdings.{token_of, turn_held}
 use Rattle.law_rights.specs.sf_actor.Rights.{issued_turn}
 use Rattle.law_rights.specs.sf_actor.Written.{FrameNumber, paid_frame}
 use Rattle.law_rights.specs.law_played.Runs.{StepBy}

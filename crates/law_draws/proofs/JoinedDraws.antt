@@ -29,7 +29,7 @@ use Rattle.law_rights.specs.sf_actor.Makers.{Run}
 use Rattle.law_rights.specs.sf_actor.Names.{Holdings, Lent, Owing, Token, name_in}
 use Rattle.law_rights.specs.sf_actor.Points.{undrawn_fence}
 use Rattle.law_rights.specs.sf_actor.Rights.{Turn, WasGivenAt}
-use Rattle.law_rights.specs.sf_actor.Tales.{IsMade, made_on}
+use Rattle.law_rights.specs.sf_actor.ScriptTraces.{IsMade, made_on}
 use Rattle.law_rights.specs.sf_actor.Traces.{DoneAt, made_by, no_past, places_of as steps_of}
 use Rattle.law_rights.specs.sf_actor.Tries.{ActorOf, Keeps}
 use Rattle.law_rights.specs.sf_actor.Written.{FrameNumber, drawn_frame, paid_frame, written_at, written_by, written_in}

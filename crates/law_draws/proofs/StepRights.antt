@@ -20,7 +20,7 @@ use Rattle.law_rights.specs.sf_actor.Draws.{entered_name}
 use Rattle.law_rights.specs.sf_actor.Known.{Call}
 use Rattle.law_rights.specs.sf_actor.Makers.{BufferOf, Run, attached_at, is_attached}
 use Rattle.law_rights.specs.sf_actor.Names.{Holdings, Token, name_in}
-use Rattle.law_rights.specs.sf_actor.Parts.{token_of, turn_held}
+use Rattle.law_rights.specs.sf_actor.Holdings.{token_of, turn_held}
 use Rattle.law_rights.specs.sf_actor.Points.{undrawn_fence}
 use Rattle.law_rights.specs.sf_actor.Traces.{DoneAt, places_of as steps_of}
 use Rattle.law_rights.specs.sf_actor.Tries.{ActorOf, past_of}

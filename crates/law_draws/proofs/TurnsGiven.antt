@@ -20,7 +20,7 @@ use Rattle.law_rights.specs.sf_actor.Known.{Call, call_after, own_calls, share_o
 use Rattle.law_rights.specs.sf_actor.Names.{FrameOf, Holdings}
 use Rattle.law_rights.specs.sf_actor.Rights.{Turn, WasGivenAt, given_turn}
 use Rattle.law_rights.specs.sf_actor.Steps.{filled_by, used_by, was_done}
-use Rattle.law_rights.specs.sf_actor.Tales.{IsMade, made_on}
+use Rattle.law_rights.specs.sf_actor.ScriptTraces.{IsMade, made_on}
 use Rattle.law_rights.specs.sf_actor.Traces.{DoneAt, MadeStep, Past, Source, made_at, made_by, next, no_past, overtaken, own_call, places_from, places_of, release_at, since_next, since_with, source_in}
 use Rattle.law_rights.specs.sf_actor.Tries.{ActorOf, Keeps}
 use Rattle.law_rights.proofs.law_played_lemmas.Members.{filter_has, has_map, joined_has, map_has, zip_has}

@@ -3,7 +3,7 @@ use Rattle.std.specs.Prelude.{◌≡◌, ℕ, ◌+◌, List, [], ◌∷◌, ◌+
 use Rattle.law_rights.specs.sf_actor.declared.done.Done.{Done}
 use Rattle.law_rights.specs.sf_actor.declared.holding.Holding.{Holding}
 use Rattle.law_rights.specs.sf_actor.Known.{Call}
-use Rattle.law_rights.specs.sf_actor.Parts.{plain_of, turn_held}
+use Rattle.law_rights.specs.sf_actor.Holdings.{plain_of, turn_held}
 use Rattle.law_rights.specs.sf_actor.Rights.{WasGivenAt}
 use Rattle.law_rights.specs.sf_actor.Tries.{ActorOf, held_in, past_of}
 use Rattle.law_rights.specs.Ledgers.{IsLedger}

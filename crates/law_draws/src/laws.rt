@@ -1,3 +1,5 @@
+//! Laws about draws and makers along any order of the calls, as a run in threads has it. They are
+//! called for their clauses alone.
 ghost use Rattle.std.specs.Prelude.{◌≡◌, ℕ, List, Contains, Some, map};
 ghost use Rattle.std.specs.List.Sorted.{IsStrictlyIncreasing};
 ghost use Rattle.law_rights.specs.sf_calls.Histories.{IsLegal};
@@ -25,7 +27,7 @@ ghost use Rattle.law_draws.specs.Doing.{DoesIn};
 ghost use Rattle.law_draws.specs.Placed.{DrawsPlaced, calls_of};
 ghost use Rattle.law_draws.specs.Standing.{RightsStand};
 
-use law_rights::sf_turns::TableName;
+use law_rights::TableName;
 
 /// What a draw enters was given by one call, so with one turn.
 pub fn one_turn_is_given_to_what_is_entered<B: TableName>()

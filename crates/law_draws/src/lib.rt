@@ -6,7 +6,7 @@
 
 mod laws;
 
-pub use law_rights::{sf_surface, sf_txn};
+pub use law_rights::{Lease, ReadLease};
 pub use laws::{
     a_step_leaves_rights_standing, frames_that_go_back_leave_rights_standing,
     one_turn_is_given_to_what_is_entered, placed_draws_stand, rights_stand_at_the_beginning,

@@ -3,12 +3,12 @@ use Rattle.std.proofs.Common.{◌≡◌, ℕ, ◌+◌, ◌*◌, ◌<◌, ◌≤�
 use Rattle.std.specs.Prelude.{codes, option_to_list}
 use Rattle.sf_script_words.specs.Text.{Text, lines_of}
 use Rattle.sf_script.specs.Script.{lines_at}
-use Rattle.law_generated.specs.Passes.{Passes}
+use Rattle.law_generated.specs.inner.Passes.{Passes}
 use Rattle.sf_script.specs.Draft.{DraftValue, place_of}
 use Rattle.sf_script.specs.Mentions.{bound_as}
 use Rattle.sf_script_generate.specs.Lines.{numbered_line, plain_line, position_line}
 use Rattle.sf_script_generate.specs.Generator.{after_draws, draw, frame_lines, parts_from}
-use Rattle.law_generated.specs.Ready.{Leads, Ready}
+use Rattle.law_generated.specs.inner.Ready.{Leads, Ready}
 use Rattle.law_generated.proofs.ReadyLemmas.{leads_then, more}
 use Rattle.law_generated.proofs.StepLemmas.{acquire_leads, apply_leads, buffer_leads, dequeuewait_leads, draw_leads, position_leads, queue_leads, request_leads, tx_leads}
 

@@ -9,8 +9,8 @@ use Rattle.sf_script.specs.Keywords.{keyword_of}
 use Rattle.sf_script.specs.Script.{draft_at, form_at, is_skipped, line_at, lines_at, words_at}
 use Rattle.sf_script.specs.declared.line.Keyword.{Keyword}
 use Rattle.sf_script.specs.declared.line.Line.{Line}
-use Rattle.law_generated.specs.Passes.{Passes}
-use Rattle.law_generated.specs.Plain.{IsPlain}
+use Rattle.law_generated.specs.inner.Passes.{Passes}
+use Rattle.law_generated.specs.inner.Plain.{IsPlain}
 use Rattle.law_generated.proofs.TextLemmas.{plain_line_cut, plain_trimmed, plain_utf8}
 
 -- what a line needs to be read as l, behind its first word

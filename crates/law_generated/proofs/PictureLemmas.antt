@@ -20,8 +20,8 @@ use Rattle.sf_script.specs.declared.line.Keyword.TheVariants as key
 use Rattle.sf_script.specs.declared.line.Line.TheVariants as line
 use Rattle.sf_script_generate.specs.Lines.{fill_line, glass_line, hex, numbered_line}
 use Rattle.sf_script_generate.specs.Generator.{after_draws, draw, parts_from, picture_lines}
-use Rattle.law_generated.specs.Painting.{Painting, Paints, picture_numbers}
-use Rattle.law_generated.specs.Plain.{IsPlain, IsSolid}
+use Rattle.law_generated.specs.inner.Painting.{Painting, Paints, picture_numbers}
+use Rattle.law_generated.specs.inner.Plain.{IsPlain, IsSolid}
 use Rattle.law_generated.proofs.FrameLemmas.{no_lines_pass}
 use Rattle.law_generated.proofs.PassLemmas.{both_pass, line_passes}
 use Rattle.law_generated.proofs.ReadLemmas.{colour_read, number_read}

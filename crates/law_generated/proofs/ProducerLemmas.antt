@@ -15,8 +15,8 @@ use Rattle.sf_script.specs.declared.line.Keyword.TheVariants as key
 use Rattle.sf_script.specs.declared.line.Line.TheVariants as line
 use Rattle.sf_script_generate.specs.Lines.{numbered_line, pair_line, plain_line, position_line}
 use Rattle.sf_script_generate.specs.Generator.{after_draws, draw, frame_lines, parts_from, producer_lines}
-use Rattle.law_generated.specs.Passes.{Passes}
-use Rattle.law_generated.specs.Ready.{Between, Comes, Leads, Ready, numbers_of}
+use Rattle.law_generated.specs.inner.Passes.{Passes}
+use Rattle.law_generated.specs.inner.Ready.{Between, Comes, Leads, Ready, numbers_of}
 use Rattle.law_generated.proofs.FrameLemmas.{all_frames, no_lines_pass}
 use Rattle.law_generated.proofs.PassLemmas.{both_pass, line_passes}
 use Rattle.law_generated.proofs.ReadLemmas.{number_read}

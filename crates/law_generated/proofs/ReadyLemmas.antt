@@ -15,8 +15,8 @@ use Rattle.sf_script.specs.declared.line.Keyword.TheVariants as key
 use Rattle.sf_script.specs.declared.line.Line.TheVariants as line
 use Rattle.sf_script.specs.declared.line.NamedStep.{NamedStep}
 use Rattle.sf_script.specs.declared.line.StepForm.{StepForm}
-use Rattle.law_generated.specs.Plain.{IsPlain}
-use Rattle.law_generated.specs.Ready.{Leads, Ready, numbers_of}
+use Rattle.law_generated.specs.inner.Plain.{IsPlain}
+use Rattle.law_generated.specs.inner.Ready.{Leads, Ready, numbers_of}
 use Rattle.law_generated.proofs.PassLemmas.{both_pass, line_passes}
 
 any_on : {X : Type 0} (f : X → X) (x : X) (xs : List X) → is_any (on_last f (x ∷ xs)) ≡ true

@@ -20,9 +20,9 @@ use Rattle.sf_script.specs.declared.line.Keyword.TheVariants as key
 use Rattle.sf_script.specs.declared.line.Line.TheVariants as line
 use Rattle.sf_script_generate.specs.Lines.{numbered_line, plain_line}
 use Rattle.sf_script_generate.specs.Generator.{after_draws, first_lines, frames_of, lines_of, parts_from, pictures_from, producer_lines, producers_from, queue_line}
-use Rattle.law_generated.specs.Painting.{Painting}
-use Rattle.law_generated.specs.Passes.{Passes}
-use Rattle.law_generated.specs.Ready.{Between}
+use Rattle.law_generated.specs.inner.Painting.{Painting}
+use Rattle.law_generated.specs.inner.Passes.{Passes}
+use Rattle.law_generated.specs.inner.Ready.{Between}
 use Rattle.law_generated.specs.Scenes.{IsScene}
 use Rattle.law_generated.proofs.SizeLemmas.{text_within}
 use Rattle.law_generated.proofs.DecimalLemmas.{if_not}

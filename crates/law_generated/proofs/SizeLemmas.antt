@@ -8,7 +8,7 @@ use Rattle.std.proofs.lemmas.List.{append-nil, length-append}
 use Rattle.sf_script_words.specs.Text.{Text}
 use Rattle.sf_script_generate.specs.Lines.{fill_line, glass_line, hex, numbered_line, pair_line, plain_line, position_line}
 use Rattle.sf_script_generate.specs.Generator.{actor_lines, after_draws, draw, first_lines, frame_lines, frames_of, lines_of, parts_from, picture_lines, pictures_from, producer_lines, producers_from}
-use Rattle.law_generated.specs.Sizes.{IsWithin}
+use Rattle.law_generated.specs.inner.Sizes.{IsWithin}
 use Rattle.law_generated.proofs.PassLemmas.{concat-append}
 
 short : (n : ℕ) → n < 1000 → length (decimal n) ≤ 3

@@ -23,8 +23,8 @@ use Rattle.sf_script.specs.declared.line.Side.TheVariants as side
 use Rattle.sf_script.specs.declared.line.StepForm.{StepForm}
 use Rattle.sf_script.specs.declared.line.StepForm.TheVariants as form
 use Rattle.sf_script_generate.specs.Lines.{numbered_line, pair_line, plain_line, position_line}
-use Rattle.law_generated.specs.Plain.{IsPlain}
-use Rattle.law_generated.specs.Ready.{Leads, Ready}
+use Rattle.law_generated.specs.inner.Plain.{IsPlain}
+use Rattle.law_generated.specs.inner.Ready.{Leads, Ready}
 use Rattle.law_generated.proofs.KeywordLemmas.{acquire_known, apply_known, async_known, buffer_known, connect_known, dequeuewait_known, draw_known, maxdequeued_known, queue_known, request_known, set_known, tx_known}
 use Rattle.law_generated.proofs.ReadLemmas.{flag_read, none_read, number_read, one_read, signed_read, two_read}
 use Rattle.law_generated.proofs.ReadyLemmas.{step_leads}

@@ -9,7 +9,7 @@ use Rattle.std.proofs.lemmas.Fmt.{decimal_by_steps}
 use Rattle.std.proofs.lemmas.Bool.Decides.{nat_tests}
 use Rattle.sf_script_words.specs.Text.{Text, is_blank, lines_of, onto, trimmed, words_of}
 use Rattle.law_generated.proofs.DecimalLemmas.{if_not}
-use Rattle.law_generated.specs.Plain.{IsPlain, IsSolid}
+use Rattle.law_generated.specs.inner.Plain.{IsPlain, IsSolid}
 
 -- a line of plain text
 pub plain_line_cut : (t rest : Text) → IsPlain t → lines_of (t ++ 10 ∷ rest) ≡ t ∷ lines_of rest

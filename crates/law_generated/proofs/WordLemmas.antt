@@ -6,7 +6,7 @@ use Rattle.std.proofs.lemmas.Fmt.{decimal_nonempty}
 use Rattle.std.proofs.lemmas.List.{append_assoc, append-nil}
 use Rattle.std.proofs.lemmas.Bool.Decides.{nat_tests}
 use Rattle.sf_script_words.specs.Text.{Text, is_blank, words_of}
-use Rattle.law_generated.specs.Plain.{IsPlain, IsSolid}
+use Rattle.law_generated.specs.inner.Plain.{IsPlain, IsSolid}
 use Rattle.law_generated.proofs.TextLemmas.{decimal_plain, decimal_solid, last_word, next_word, plain_append}
 
 -- tests of texts that are written out

@@ -11,5 +11,5 @@ pub fn text_is_scene(number: u64)
     ensures { IsScene (concat (lines_of number)) }
 {}
 
-pub use sf_script;
-pub use sf_script_generate;
+pub use sf_script::{LONGEST_SCRIPT, ParseFault, ScriptFault, parse};
+pub use sf_script_generate::generate;

@@ -19,7 +19,7 @@ use Rattle.law_threads.specs.sf_actor.declared.tried.Stepped.{Stepped}
 use Rattle.law_threads.specs.sf_actor.declared.tried.Stepped.TheVariants as stepped
 use Rattle.law_threads.specs.sf_actor.Desks.{DeskHome, DeskView, known_of}
 use Rattle.law_threads.specs.sf_actor.Known.{ShareGoesOn, share_of}
-use Rattle.law_threads.specs.sf_actor.Parts.{queue_held}
+use Rattle.law_threads.specs.sf_actor.Holdings.{queue_held}
 use Rattle.law_threads.specs.sf_actor.Scripts.{picture_at}
 use Rattle.law_threads.specs.sf_actor.Tries.{ActorOf, AreThere, Keeps, Tries, dequeues_in}
 use Rattle.law_threads.specs.sf_actor.Written.{signals_of}

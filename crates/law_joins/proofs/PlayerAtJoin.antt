@@ -41,7 +41,7 @@ use Rattle.law_threads.specs.sf_actor.Makers.{Run}
 use Rattle.law_threads.specs.sf_actor_set.ActorSets.{KeepAs}
 use Rattle.law_threads.specs.sf_script_scene.declared.step.ActorScript.{ActorScript}
 use Rattle.law_threads.specs.law_played.Frames.{ShowImages}
-use Rattle.law_threads.specs.sf_record.declared.event.VsyncReport.{VsyncReport}
+use Rattle.law_threads.specs.sf_record.declared.event.VsyncRecords.{VsyncRecords}
 use Rattle.law_threads.proofs.law_played_lemmas.StepKeepsTold.{of_all}
 use Rattle.law_threads.proofs.law_played_lemmas.KeepingLemmas.{none_played}
 use Rattle.law_threads.proofs.law_played_lemmas.Members.{filter_has, has_cases, has_filter, has_here, has_joined, has_later, has_map, has_none, in_range, joined_has, map_has, zip_has}
@@ -215,7 +215,7 @@ module _ {B : Type 0} (lease : Ghosts ReadLeaseOf SeatView ReadLeaseOf Issued) (
   abbrev taken : List (Arrival ReadLeaseOf)
   taken = taken_of lease table locks period j.log
 
-  abbrev reports : List VsyncReport
+  abbrev reports : List VsyncRecords
   reports = reports_of lease table locks period scene j.log
 
   pub home_marks : home.marks ≡ map mark_declared (rising_queues scene)
@@ -464,10 +464,10 @@ module _ {B : Type 0} (lease : Ghosts ReadLeaseOf SeatView ReadLeaseOf Issued) (
       desk = desk_stands;
       vsyncs = record {
         vsyncs = subst (AreVsyncs scene made) (sym reports_are) seen_so.has.are;
-        numbers = subst (All (λ (vsync : VsyncReport). vsync.number ≤ last.number)) (sym reports_are) seen_so.has.numbers;
+        numbers = subst (All (λ (vsync : VsyncRecords). vsync.number ≤ last.number)) (sym reports_are) seen_so.has.numbers;
         last = has.last;
         played = subst (λ (xs : List (Arrival FrameOf)). HasPlayed frame_of scene (written_in scene run) xs (vsyncs_in so.events) last.handler) (sym taken_are)
-            (subst (λ (rs : List VsyncReport). HasPlayed frame_of scene (written_in scene run) (map plain_arrival taken) rs last.handler) (sym reports_are) played.played);
+            (subst (λ (rs : List VsyncRecords). HasPlayed frame_of scene (written_in scene run) (map plain_arrival taken) rs last.handler) (sym reports_are) played.played);
         frames = subst (ShowImages scene) (sym told_are) played.frames;
       };
       leases = record { pending = lent.pending; on = lent.on };

@@ -16,14 +16,14 @@ use Rattle.law_threads.specs.sf_commit.Handlers.{last_of}
 use Rattle.law_threads.specs.sf_commit.Leases.{IsReleaseOf}
 use Rattle.law_threads.specs.sf_commit.OnLayers.{OnLayer}
 use Rattle.law_threads.specs.sf_commit.Releases.{ReleaseOf}
-use Rattle.law_threads.specs.sf_commit.declared.vsync.Commit.{Commit as Decided}
+use Rattle.law_threads.specs.sf_commit.declared.vsync.Commit.{Commit}
 use Rattle.law_threads.specs.sf_script_scene.Scene.{SceneValue}
 use Rattle.law_threads.specs.sf_script_scene.declared.declarations.QueueDecl.{QueueDecl}
 use Rattle.law_threads.specs.sf_actor.Desks.{DeskView, mark_among}
 use Rattle.law_threads.specs.sf_actor.Known.{CountsRise, frame_of, plain_arrival}
 use Rattle.law_threads.specs.sf_actor.Names.{FrameOf}
 use Rattle.law_threads.specs.sf_actor.Written.{FrameNumber}
-use Rattle.law_threads.specs.sf_record.declared.event.VsyncReport.{VsyncReport}
+use Rattle.law_threads.specs.sf_record.declared.event.VsyncRecords.{VsyncRecords}
 use Rattle.law_threads.proofs.law_played_lemmas.LeaseLemmas.{images_go_on, looks_tell, plain_frame, releases_go_on}
 use Rattle.law_threads.proofs.law_played_lemmas.ProgressLemmas.{goes_further, goes_on_by, goes_silently, releases_nothing, tells_no_more}
 use Rattle.law_threads.specs.law_played.Actors.{IsRelease, mark_declared}
@@ -49,7 +49,7 @@ use Rattle.law_joins.proofs.Sights.{says_seen}
 use Rattle.law_joins.proofs.Takes.{log_takes, takes_rise, vsync_takes}
 use Rattle.law_threads.specs.sf_live_compositor.Vsyncs.{Begin, IsVsync, More, Sitting, Vsyncs}
 
-no_commits : (commits : List Decided) → has_commits commits ≡ false → commits ≡ []
+no_commits : (commits : List Commit) → has_commits commits ≡ false → commits ≡ []
 no_commits [] none = refl
 no_commits (commit ∷ commits) none = absurd (cc)
 
@@ -62,13 +62,13 @@ module _ {B : Type 0} (lease : Ghosts ReadLeaseOf SeatView ReadLeaseOf Issued) (
   -- a vsync that follows what was played so far
   module _ (before after : Sitting B) (v : IsVsync lease table locks period before after) (known : IsKnown joined arriving after.seats) (first : after.seats.by ≡ 0)
       (taken : List (Arrival ReadLeaseOf)) (has : HasTaken before.handler (unstamped before.seats.arrivals.seen) taken) (lent : HoldsLent joined before.handler) (came : All (IsArrivedLent joined) v.arrived)
-      (reports : List VsyncReport) (played : HasPlayed frame_of scene written (map plain_arrival taken) reports before.handler) where
+      (reports : List VsyncRecords) (played : HasPlayed frame_of scene written (map plain_arrival taken) reports before.handler) where
     rises : IsRisingFrom before.handler.last v.arrived (last_of before.handler.last v.arrived)
     rises = subst (λ (n : ℕ). IsRisingFrom n v.arrived (last_of n v.arrived)) (sym has.last)
         (takes_rise (unstamped before.seats.arrivals.seen) v.arrived (unstamped after.seats.arrivals.seen)
         (vsync_takes lease table locks period arriving only before after v first known.arrivals))
 
-    abbrev pub report : VsyncReport
+    abbrev pub report : VsyncRecords
     report = vsync_shown scene after.number v.expected v.seen v.told.commits after.handler.tree
 
     says : SaysVsync report v.told v.seen v.expected
@@ -106,16 +106,16 @@ module _ {B : Type 0} (lease : Ghosts ReadLeaseOf SeatView ReadLeaseOf Issued) (
       releases_silently = releases_nothing lease frame_of plain scene written (map plain_arrival taken) reports before.handler after.handler v.took.turns v.turns v.arrived v.seen v.expected v.told played v.decides rises none
 
     -- whether it is shown or not
-    abbrev shown : Bool → List VsyncReport
+    abbrev shown : Bool → List VsyncRecords
     shown b = if b then report ∷ [] else []
 
     played_by : (b : Bool) → has_commits v.told.commits ≡ b → HasPlayed frame_of scene written all (reports ++ shown b) after.handler
     played_by true some = played_shown
-    played_by false none = subst (λ (rs : List VsyncReport). HasPlayed frame_of scene written all rs after.handler) (sym (append-nil reports)) (played_silently (no_commits v.told.commits none))
+    played_by false none = subst (λ (rs : List VsyncRecords). HasPlayed frame_of scene written all rs after.handler) (sym (append-nil reports)) (played_silently (no_commits v.told.commits none))
 
     images_by : (b : Bool) → has_commits v.told.commits ≡ b → ShowImages scene (told_of scene (map plain_arrival taken) reports) → ShowImages scene (told_of scene all (reports ++ shown b))
     images_by true some images = images_shown images
-    images_by false none images = subst (λ (rs : List VsyncReport). ShowImages scene (told_of scene all rs)) (sym (append-nil reports)) (subst (ShowImages scene) (sym (told_silently (no_commits v.told.commits none))) images)
+    images_by false none images = subst (λ (rs : List VsyncRecords). ShowImages scene (told_of scene all rs)) (sym (append-nil reports)) (subst (ShowImages scene) (sym (told_silently (no_commits v.told.commits none))) images)
 
     pub played_after : HasPlayed frame_of scene written (map plain_arrival (taken ++ v.arrived)) (reports ++ shown (has_commits v.told.commits)) after.handler
     played_after = subst (λ (xs : List (Arrival FrameOf)). HasPlayed frame_of scene written xs (reports ++ shown (has_commits v.told.commits)) after.handler)
@@ -141,7 +141,7 @@ module _ {B : Type 0} (lease : Ghosts ReadLeaseOf SeatView ReadLeaseOf Issued) (
     released_by true some = releases_go_on (told_of scene (map plain_arrival taken) reports) (told_of scene all (reports ++ report ∷ [])) report after.handler.tree (map (framed_on frame_of) v.decides.end.stage.gone) goes_on
     released_by false none =
         let silent = no_commits v.told.commits none in
-        ap (λ (rs : List VsyncReport). released_in (told_of scene all rs)) (append-nil reports) ∙ ap released_in (told_silently silent) ∙ sym (append-nil before_released)
+        ap (λ (rs : List VsyncRecords). released_in (told_of scene all rs)) (append-nil reports) ∙ ap released_in (told_silently silent) ∙ sym (append-nil before_released)
         ∙ ap (λ (gone : List (OnLayer ReadLeaseOf)). before_released ++ told_back after.number gone) (sym (none_goes silent))
 
     pub released_after : released_in (told_of scene (map plain_arrival (taken ++ v.arrived)) (reports ++ shown (has_commits v.told.commits))) ≡ before_released ++ told_back after.number v.decides.end.stage.gone

@@ -15,10 +15,10 @@ use Rattle.law_threads.specs.sf_times.declared.protocol.Knows.{Knows}
 use Rattle.law_threads.specs.sf_times.Seats.{all_loaded}
 use Rattle.law_threads.specs.sf_turns.Views.{SeatView}
 use Rattle.law_threads.specs.sf_txn.declared.lease.Lease.{Ghosts}
-use Rattle.law_threads.specs.sf_commit.declared.vsync.Commit.{Commit as Decided}
+use Rattle.law_threads.specs.sf_commit.declared.vsync.Commit.{Commit}
 use Rattle.law_threads.specs.sf_script_scene.Scene.{SceneValue}
 use Rattle.law_threads.specs.sf_actor.Known.{AreAmong}
-use Rattle.law_threads.specs.sf_record.declared.event.VsyncReport.{VsyncReport}
+use Rattle.law_threads.specs.sf_record.declared.event.VsyncRecords.{VsyncRecords}
 use Rattle.law_threads.proofs.law_played_lemmas.Members.{has_first, has_later}
 use Rattle.law_threads.proofs.law_played_lemmas.SeenLemmas.{seen_is}
 use Rattle.law_threads.proofs.law_played_lemmas.VsyncLemmas.{none_seen, seen_more, seen_silently}
@@ -54,7 +54,7 @@ point_has seen t all low high =
     same : 1 + (t - 1) ≡ t
     same = omega (arith, low)
 
-commits_shown : (commits : List Decided) → has_commits commits ≡ true → map commit_shown commits ≢ []
+commits_shown : (commits : List Commit) → has_commits commits ≡ true → map commit_shown commits ≢ []
 commits_shown [] some none = absurd (false≢true some)
 commits_shown (commit ∷ commits) some none = cc
 
@@ -101,7 +101,7 @@ module _ {B : Type 0} (lease : Ghosts ReadLeaseOf SeatView ReadLeaseOf Issued) (
       | inr there ↦ absurd (false≢true (sym none ∙ knows.declared (t, value_of v.seen.values t) there))
     ]
 
-    abbrev pub report : VsyncReport
+    abbrev pub report : VsyncRecords
     report = vsync_shown scene after.number v.expected v.seen v.told.commits after.handler.tree
 
     pub says_seen : seen_by report ≡ v.seen
@@ -127,7 +127,7 @@ module _ {B : Type 0} (lease : Ghosts ReadLeaseOf SeatView ReadLeaseOf Issued) (
         omega (arith, has, joined, same)
 
     -- one vsync more
-    pub seen_after : (reports : List VsyncReport) → HasSeenSo scene made reports before.number before.seats.times.knows
+    pub seen_after : (reports : List VsyncRecords) → HasSeenSo scene made reports before.number before.seats.times.knows
         → HasSeenSo scene made (reports ++ (if has_commits v.told.commits then report ∷ [] else [])) after.number after.seats.times.knows
     seen_after reports was = record { seen = v.seen; has = by_commits (has_commits v.told.commits) refl; within = within }
       where
@@ -143,7 +143,7 @@ module _ {B : Type 0} (lease : Ghosts ReadLeaseOf SeatView ReadLeaseOf Issued) (
         by_commits : (b : Bool) → has_commits v.told.commits ≡ b → HasSeen scene made (reports ++ (if b then report ∷ [] else [])) after.number v.seen
         by_commits true some = seen_more scene made reports before.number was.seen v.seen report was.has (next v.counted) rises (tells some)
         by_commits false none =
-            subst (λ (rs : List VsyncReport). HasSeen scene made rs after.number v.seen) (sym (append-nil reports)) (seen_silently scene made reports before.number after.number was.seen v.seen was.has (least v.counted) rises)
+            subst (λ (rs : List VsyncRecords). HasSeen scene made rs after.number v.seen) (sym (append-nil reports)) (seen_silently scene made reports before.number after.number was.seen v.seen was.has (least v.counted) rises)
 
   shown_before : (before after : Sitting B) → IsVsync lease table locks period before after → AreAmong after.seats.times.knows.shown joined.shown → AreAmong before.seats.times.knows.shown joined.shown
   shown_before before after v shown p there =

@@ -10,7 +10,7 @@ use Rattle.law_threads.specs.sf_script_scene.Scene.{SceneValue}
 use Rattle.law_threads.specs.sf_script_scene.declared.step.ActorScript.{ActorScript}
 use Rattle.law_threads.specs.sf_actor.Desks.{DeskHome, mark_among}
 use Rattle.law_threads.specs.sf_actor.Known.{arrivals_told, is_sent_by, own_calls}
-use Rattle.law_threads.specs.sf_actor.Parts.{PartsOf}
+use Rattle.law_threads.specs.sf_actor.Holdings.{HoldingsOf}
 use Rattle.law_threads.specs.sf_actor.Scripts.{picture_at}
 use Rattle.law_threads.specs.sf_actor.Tries.{ActorOf, Keeps, dequeues_in}
 use Rattle.law_threads.specs.sf_actor_set.Opening.{new_actors}
@@ -36,7 +36,7 @@ module _ {B : Type 0} (scene : SceneValue) (table : TableId) (locks : Locks B) (
     of = new_actor script stock
 
     same_actor : of ≡ new_actor actor.script newcomer.stock
-    same_actor = λ i. new_actor {B = B} (is.script i) ((ap (λ (parts : PartsOf B). parts.stock) (is.parts ∙ sym newcomer.is.parts)) i)
+    same_actor = λ i. new_actor {B = B} (is.script i) ((ap (λ (parts : HoldingsOf B). parts.stock) (is.parts ∙ sym newcomer.is.parts)) i)
 
     same_home : home_of locks sent.seats ≡ home_for locks actor.script.number
     same_home = ap (home_for locks) gets_seats.fresh.caller

@@ -19,7 +19,7 @@ use Rattle.law_threads.specs.sf_actor.Tries.{ActorOf}
 use Rattle.law_threads.specs.law_played.Actors.{AreActors, run_of}
 use Rattle.law_threads.specs.law_played.Runs.{written_in}
 use Rattle.law_threads.specs.law_rights.Actors.{AreOver}
-use Rattle.law_threads.specs.law_rights.Looks.{WasAcquired}
+use Rattle.law_threads.specs.law_rights.Loads.{WasAcquired}
 use Rattle.law_threads.specs.law_rights.Standing.{LedgerStands, state_of}
 use Rattle.law_threads.specs.law_rights.States.{all_buffers, is_queue}
 use Rattle.law_threads.proofs.law_rights_lemmas.WrittenFrames.{look_is_written}

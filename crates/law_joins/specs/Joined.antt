@@ -8,14 +8,14 @@ use Rattle.law_threads.specs.sf_surface.Tokens.{Issued, ReadLeaseOf}
 use Rattle.law_threads.specs.sf_turns.Views.{SeatView}
 use Rattle.law_threads.specs.sf_txn.declared.lease.Lease.{Ghosts}
 use Rattle.law_threads.specs.sf_script_scene.Scene.{SceneValue}
-use Rattle.law_threads.specs.sf_actor.declared.tried.Reply.{Reply as Told}
+use Rattle.law_threads.specs.sf_actor.declared.tried.Reply.{Reply}
 use Rattle.law_threads.specs.sf_actor.Desks.{KnowsAll, mark_among}
 use Rattle.law_threads.specs.sf_actor.Plain.{PlainOf, home_of as plain_home, view_of as plain_view}
 use Rattle.law_threads.specs.sf_actor.Tries.{ActorOf}
 use Rattle.law_threads.specs.sf_actor_set.ActorSets.{ActorSetOf}
 use Rattle.law_threads.specs.sf_record.declared.event.Event.{Event}
 use Rattle.law_threads.specs.sf_record.declared.event.Event.TheVariants as event
-use Rattle.law_threads.specs.sf_record.declared.event.VsyncReport.{VsyncReport}
+use Rattle.law_threads.specs.sf_record.declared.event.VsyncRecords.{VsyncRecords}
 use Rattle.law_threads.specs.law_played.Replies.{reply_shown}
 use Rattle.law_threads.specs.sf_script_scene.Limits.{most_layers}
 use Rattle.law_threads.specs.sf_live_seats.declared.locks.Locks.{Locks}
@@ -28,10 +28,10 @@ use Rattle.law_threads.specs.sf_live_compositor.Vsyncs.{Sitting}
 module _ {B : Type 0} where
   -- what an actor replied
   abbrev pub replies_told : ActorOf B → List Event
-  replies_told of = map (λ (told : Told). event.Reply (reply_shown told)) of.replies
+  replies_told of = map (λ (told : Reply). event.Reply (reply_shown told)) of.replies
 
   -- the vsyncs that were shown, and behind them all replies, by actor and step
-  abbrev pub events_of : List VsyncReport → List (ActorOf B) → List Event
+  abbrev pub events_of : List VsyncRecords → List (ActorOf B) → List Event
   events_of reports ofs = map event.Vsync reports ++ flat_map replies_told ofs
 
   -- the actors that came back, over the desk that is left

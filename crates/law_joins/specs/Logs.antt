@@ -22,7 +22,7 @@ use Rattle.law_threads.specs.sf_actor.Known.{AreAmong, CountsRise, frame_of, pla
 use Rattle.law_threads.specs.sf_actor.Names.{FrameOf}
 use Rattle.law_threads.specs.sf_actor.Plain.{taken_in}
 use Rattle.law_threads.specs.sf_actor.Written.{FrameNumber}
-use Rattle.law_threads.specs.sf_record.declared.event.VsyncReport.{VsyncReport}
+use Rattle.law_threads.specs.sf_record.declared.event.VsyncRecords.{VsyncRecords}
 use Rattle.law_threads.specs.law_played.Commits.{is_written}
 use Rattle.law_threads.specs.law_played.Frames.{ShowImages}
 use Rattle.law_threads.specs.law_played.Progress.{HasPlayed}
@@ -44,11 +44,11 @@ module _ {B : Type 0} (lease : Ghosts ReadLeaseOf SeatView ReadLeaseOf Issued) (
   taken_of (More log vsync) = taken_of log ++ vsync.arrived
 
   -- what is shown of a vsync, where something was committed
-  abbrev pub shown_of : SceneValue → {before after : Sitting B} → IsVsync lease table locks period before after → List VsyncReport
+  abbrev pub shown_of : SceneValue → {before after : Sitting B} → IsVsync lease table locks period before after → List VsyncRecords
   shown_of scene {before} {after} vsync =
       if has_commits vsync.told.commits then vsync_shown scene after.number vsync.expected vsync.seen vsync.told.commits after.handler.tree ∷ [] else []
 
-  abbrev pub reports_of : SceneValue → {start last : Sitting B} → Vsyncs lease table locks period start last → List VsyncReport
+  abbrev pub reports_of : SceneValue → {start last : Sitting B} → Vsyncs lease table locks period start last → List VsyncRecords
   reports_of scene Begin = []
   reports_of scene (More log vsync) = reports_of scene log ++ shown_of scene vsync
 
@@ -78,7 +78,7 @@ pub record KnowsSteps (scene : SceneValue) (joined : Knows) (made : List (ℕ ×
   pub declared : (p : ℕ × ℕ) → Contains joined.signals p → has_timeline scene.timelines p.0 ≡ true
 
 -- the vsyncs so far are those of a scene, and the seat at the timelines knows what they saw
-pub record HasSeenSo (scene : SceneValue) (made : List (ℕ × ℕ)) (reports : List VsyncReport) (number : ℕ) (knows : Knows) : Type 0 where
+pub record HasSeenSo (scene : SceneValue) (made : List (ℕ × ℕ)) (reports : List VsyncRecords) (number : ℕ) (knows : Knows) : Type 0 where
   pub seen : Seen
   pub has : HasSeen scene made reports number seen
   pub within : (t : ℕ) → 1 ≤ t → t ≤ 64 → value_of seen.values t ≤ greatest t knows.known

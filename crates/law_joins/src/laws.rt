@@ -1,3 +1,5 @@
+//! Laws about a run in threads at its join: what its compositor and its actors did there is a
+//! played run so far.
 ghost use Rattle.std.specs.Prelude.{◌≡◌, ℕ, ◌≤◌, List, [], map};
 ghost use Rattle.atomic_table.specs.Seated.{TableId};
 ghost use Rattle.law_threads.specs.sf_calls.Histories.{Begins, GoesOnWithout};

@@ -1,3 +1,4 @@
+//! Laws by which a player goes on from the join, with all rights of the run.
 ghost use Rattle.std.specs.Prelude.{◌≡◌, ℕ, ◌≤◌, List};
 ghost use Rattle.law_threads.specs.sf_script_scene.Scene.{SceneValue};
 ghost use Rattle.law_threads.specs.sf_actor.Plain.{PlainOf};

@@ -23,7 +23,7 @@ use Rattle.sf_actor_set.specs.sf_actor.Desks.{mark_among}
 use Rattle.sf_actor_set.specs.sf_actor.Rights.{turn_by}
 use Rattle.law_rights.specs.Calls.{write_of, writes_in}
 use Rattle.law_rights.specs.Ledgers.{Write}
-use Rattle.law_rights.specs.Looks.{IsQueuedFrame, WasAcquired}
+use Rattle.law_rights.specs.Loads.{IsQueuedFrame, WasAcquired}
 use Rattle.law_rights.specs.Moves.{AreIn, turn_after}
 use Rattle.law_rights.specs.States.{State, ledger_of}
 use Rattle.law_rights.proofs.TurnCounts.{first, in_front, none_in}

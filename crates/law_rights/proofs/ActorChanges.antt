@@ -12,7 +12,7 @@ use Rattle.sf_actor_set.specs.sf_script_scene.declared.step.Step.{Step}
 use Rattle.sf_actor_set.specs.sf_surface.Tokens.{ReadLeaseOf}
 use Rattle.sf_actor_set.specs.sf_token.Pending.{Arrival}
 use Rattle.sf_actor_set.specs.sf_actor.Desks.{DeskHome}
-use Rattle.sf_actor_set.specs.sf_actor.Parts.{PartsOf}
+use Rattle.sf_actor_set.specs.sf_actor.Holdings.{HoldingsOf}
 use Rattle.sf_actor_set.specs.sf_actor.Tries.{ActorOf}
 use Rattle.sf_actor_set.specs.sf_actor.Written as written
 use Rattle.sf_actor_set.specs.sf_actor_steps.declared.bindings.Bindings.{Bindings}
@@ -42,8 +42,8 @@ module _ {B : Type 0} (pictures : ℕ → Picture) (home : DeskHome) (place : �
       let c = sum_by-set f old.actors place tries.is tries.was low in
       let d = ap (sum_by f) tries.actors in
       let e = ap f was_here in
-      let p = ap (λ (parts : PartsOf B). sum_by w (places_held parts)) tries.parts_was in
-      let q = ap (λ (parts : PartsOf B). sum_by w (places_held parts)) tries.parts_is in
+      let p = ap (λ (parts : HoldingsOf B). sum_by w (places_held parts)) tries.parts_was in
+      let q = ap (λ (parts : HoldingsOf B). sum_by w (places_held parts)) tries.parts_is in
       omega (arith, a, b, c, d, e, p, q)
 
   -- and of all that are held
@@ -72,7 +72,7 @@ module _ {B : Type 0} (pictures : ℕ → Picture) (home : DeskHome) (place : �
 
   pub owed_get : (more : List WriteAt) → Gets (places_owed (parts_of before)) more (places_owed (parts_of after)) → Gets (places_of old).owed more (places_of new).owed
   owed_get more gets = actors_get (λ (a : ActorOf B). places_owed a.parts) more
-      (subst (λ (parts : PartsOf B). Gets (places_owed parts) more (places_owed tries.is.parts)) (sym tries.parts_was) (subst (λ (parts : PartsOf B). Gets (places_owed (parts_of before)) more (places_owed parts)) (sym tries.parts_is) gets))
+      (subst (λ (parts : HoldingsOf B). Gets (places_owed parts) more (places_owed tries.is.parts)) (sym tries.parts_was) (subst (λ (parts : HoldingsOf B). Gets (places_owed (parts_of before)) more (places_owed parts)) (sym tries.parts_is) gets))
 
   pub owed_lose : (less : List WriteAt) → AreIn (places_owed (parts_of after)) (places_owed (parts_of before)) → AreIn (places_owed (parts_of before)) (less ++ places_owed (parts_of after)) → AreIn (places_of new).owed (places_of old).owed × AreIn (places_of old).owed (less ++ (places_of new).owed)
   owed_lose less fewer lost = subst (λ (xs : List (ActorOf B)). AreIn (flat_map f xs) (places_of old).owed × AreIn (places_of old).owed (less ++ flat_map f xs)) (sym tries.actors)
@@ -98,9 +98,9 @@ module _ {B : Type 0} (pictures : ℕ → Picture) (home : DeskHome) (place : �
       (Contains-append_left (flat_map (λ (a : ActorOf B). places_held a.parts) old.actors) (flat_map places_arrived old.waiting) turn
       (in_all (λ (a : ActorOf B). places_held a.parts) old.actors tries.was turn
       (subst (Contains old.actors) was_here (got_there old.actors place tries.was low))
-      (subst (λ (parts : PartsOf B). Contains (places_held parts) turn) (sym tries.parts_was) there)))
+      (subst (λ (parts : HoldingsOf B). Contains (places_held parts) turn) (sym tries.parts_was) there)))
 
   pub owed_there : (write : WriteAt) → Contains (places_owed (parts_of before)) write → Contains (places_of old).owed write
   owed_there write there = in_all (λ (a : ActorOf B). places_owed a.parts) old.actors tries.was write
       (subst (Contains old.actors) was_here (got_there old.actors place tries.was low))
-      (subst (λ (parts : PartsOf B). Contains (places_owed parts) write) (sym tries.parts_was) there)
+      (subst (λ (parts : HoldingsOf B). Contains (places_owed parts) write) (sym tries.parts_was) there)

@@ -9,7 +9,7 @@ use Rattle.sf_base.specs.declared.ids.LayerId.{LayerId}
 use Rattle.sf_actor_set.specs.sf_layer.declared.op.Op.{Op}
 use Rattle.sf_actor_set.specs.sf_layer.declared.op.Op.TheVariants as op
 use Rattle.sf_actor_set.specs.sf_surface.Tokens.{Issued, ReadLeaseOf}
-use Rattle.sf_actor_set.specs.sf_token.Looking.{IsLookedArrival}
+use Rattle.sf_actor_set.specs.sf_token.Loads.{IsLookedArrival}
 use Rattle.sf_actor_set.specs.sf_token.Pending.{Arrival, head_of, is_of}
 use Rattle.sf_actor_set.specs.sf_tree.Changes.{Rejection, after}
 use Rattle.sf_actor_set.specs.sf_tree.Trees.{TreeOf}

@@ -18,7 +18,7 @@ use Rattle.sf_actor_set.specs.sf_actor.declared.done.Answered.TheVariants as ans
 use Rattle.sf_actor_set.specs.sf_actor.declared.holding.Holding.{Holding}
 use Rattle.sf_actor_set.specs.sf_actor.declared.holding.Holding.TheVariants as holding
 use Rattle.sf_actor_set.specs.sf_actor.Desks.{DeskHome, DeskView}
-use Rattle.sf_actor_set.specs.sf_actor.Parts.{token_of}
+use Rattle.sf_actor_set.specs.sf_actor.Holdings.{token_of}
 use Rattle.sf_actor_set.specs.sf_actor.Rights.{Turn, issued_turn}
 use Rattle.sf_actor_set.specs.sf_actor.Written as written
 use Rattle.sf_actor_set.specs.sf_actor_steps.declared.bindings.Bindings.{Bindings}

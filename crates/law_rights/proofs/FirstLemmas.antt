@@ -19,7 +19,7 @@ use Rattle.sf_actor_set.specs.sf_actor.declared.holding.Holding.TheVariants as h
 use Rattle.sf_actor_set.specs.sf_actor.Desks.{DeskHome, DeskView}
 use Rattle.sf_actor_set.specs.sf_actor.Makers.{BufferOf, Maker, Run, buffer_in, followed, is_before, is_older, same_maker}
 use Rattle.sf_actor_set.specs.sf_actor.Names.{Holdings, Token, is_owing}
-use Rattle.sf_actor_set.specs.sf_actor.Parts.{token_of, turn_held}
+use Rattle.sf_actor_set.specs.sf_actor.Holdings.{token_of, turn_held}
 use Rattle.sf_actor_set.specs.sf_actor.Rights.{issued_turn, turn_by}
 use Rattle.sf_actor_set.specs.sf_actor.Scripts.{picture_at}
 use Rattle.sf_actor_set.specs.sf_actor.Traces.{past_after}

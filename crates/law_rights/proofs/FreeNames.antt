@@ -19,7 +19,7 @@ use Rattle.sf_actor_set.specs.sf_surface.Hands.{IsReply, brought}
 use Rattle.sf_actor_set.specs.sf_actor.declared.holding.Holding.{Holding}
 use Rattle.sf_actor_set.specs.sf_actor.declared.holding.Holding.TheVariants as holding
 use Rattle.sf_actor_set.specs.sf_actor.Names.{Holdings, Token, name_in}
-use Rattle.sf_actor_set.specs.sf_actor.Parts.{token_of}
+use Rattle.sf_actor_set.specs.sf_actor.Holdings.{token_of}
 use Rattle.sf_actor_set.specs.sf_actor.Tests.{first_met, is_taken, occupied, refusal_of, tests_of}
 use Rattle.sf_actor_set.specs.sf_actor_steps.declared.asking.Asking.{Asking}
 use Rattle.sf_actor_set.specs.sf_actor_steps.declared.bindings.Bindings.{Bindings}

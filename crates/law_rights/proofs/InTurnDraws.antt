@@ -30,7 +30,7 @@ use Rattle.sf_actor_set.specs.sf_actor.declared.holding.Holding.{Holding}
 use Rattle.sf_actor_set.specs.sf_actor.declared.holding.Holding.TheVariants as holding
 use Rattle.sf_actor_set.specs.sf_actor.Desks.{DeskHome, DeskView, mark_among}
 use Rattle.sf_actor_set.specs.sf_actor.Makers.{BufferOf, Maker, Run, buffer_in, followed, is_before, same_maker}
-use Rattle.sf_actor_set.specs.sf_actor.Parts.{token_of, turn_held}
+use Rattle.sf_actor_set.specs.sf_actor.Holdings.{token_of, turn_held}
 use Rattle.sf_actor_set.specs.sf_actor.Rights.{issued_turn}
 use Rattle.sf_actor_set.specs.sf_actor.Traces.{DoneAt, no_past, places_of as steps_of}
 use Rattle.sf_actor_set.specs.sf_actor.Tries.{ActorOf}

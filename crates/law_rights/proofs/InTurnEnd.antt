@@ -32,7 +32,7 @@ use Rattle.sf_actor_set.specs.sf_actor.Makers.{BufferOf, Run, buffer_in, is_befo
 use Rattle.sf_actor_set.specs.sf_actor.Names.{OwedFrame, Owing, Token, name_in}
 use Rattle.sf_actor_set.specs.sf_actor.Scripts.{picture_at}
 use Rattle.sf_actor_set.specs.sf_actor.Steps.{owed_by}
-use Rattle.sf_actor_set.specs.sf_actor.Tales.{IsMade, made_on}
+use Rattle.sf_actor_set.specs.sf_actor.ScriptTraces.{IsMade, made_on}
 use Rattle.sf_actor_set.specs.sf_actor.Traces.{DoneAt, made_by, places_of as steps_of}
 use Rattle.sf_actor_set.specs.sf_actor.Tries.{ActorOf, Keeps}
 use Rattle.sf_actor_set.specs.sf_actor.Written.{FrameNumber, paid_at, written_at}

@@ -38,7 +38,7 @@ use Rattle.sf_actor_set.specs.sf_actor.Desks.{DeskHome, DeskView}
 use Rattle.sf_actor_set.specs.sf_actor.Draws.{entered_name}
 use Rattle.sf_actor_set.specs.sf_actor.Makers.{Run}
 use Rattle.sf_actor_set.specs.sf_actor.Names.{Holdings, Lent, Token, name_in}
-use Rattle.sf_actor_set.specs.sf_actor.Parts.{drawn_picture, token_of, turn_held}
+use Rattle.sf_actor_set.specs.sf_actor.Holdings.{drawn_picture, token_of, turn_held}
 use Rattle.sf_actor_set.specs.sf_actor.Plain.{PlainOf, home_of, view_of}
 use Rattle.sf_actor_set.specs.sf_actor.Points.{undrawn_fence}
 use Rattle.sf_actor_set.specs.sf_actor.Rights.{turn_by}

@@ -12,7 +12,7 @@ use Rattle.sf_actor_set.specs.sf_actor.Known.{frame_of}
 use Rattle.sf_actor_set.specs.sf_actor.Rights.{Turn, turn_by}
 use Rattle.sf_actor_set.specs.sf_actor.Written.{FrameNumber}
 use Rattle.law_rights.specs.Ledgers.{IsLedger, Ledger}
-use Rattle.law_rights.specs.Looks.{IsQueuedFrame, is_written}
+use Rattle.law_rights.specs.Loads.{IsQueuedFrame, is_written}
 use Rattle.law_rights.proofs.TurnCounts.{counted, first, found, in_front, is_turn, later, none_in}
 
 count_turn : (turn : Turn) (xs : List Turn) → leaf_at turn.0 turn.1 xs ≡ sum_by (is_turn turn) xs

@@ -23,10 +23,10 @@ use Rattle.sf_actor_set.specs.sf_actor.declared.tried.Stepped.TheVariants as ste
 use Rattle.sf_actor_set.specs.sf_actor.Desks.{DeskHome, DeskView, mark_among}
 use Rattle.sf_actor_set.specs.sf_actor.Makers.{BufferOf, attached_at}
 use Rattle.sf_actor_set.specs.sf_actor.Names.{Holdings}
-use Rattle.sf_actor_set.specs.sf_actor.Parts.{plain_of}
+use Rattle.sf_actor_set.specs.sf_actor.Holdings.{plain_of}
 use Rattle.sf_actor_set.specs.sf_actor.Plain.{PlainOf, home_of, view_of}
 use Rattle.sf_actor_set.specs.sf_actor.Scripts.{picture_at}
-use Rattle.sf_actor_set.specs.sf_actor.Tales.{IsMade, made_on}
+use Rattle.sf_actor_set.specs.sf_actor.ScriptTraces.{IsMade, made_on}
 use Rattle.sf_actor_set.specs.sf_actor.Traces.{DoneAt, made_by, past_after, places_of}
 use Rattle.sf_actor_set.specs.sf_actor.Tries.{ActorOf, DoesStep, Tries, next_step}
 use Rattle.sf_actor_set.specs.sf_actor_steps.declared.actor.Actor.{Actor}

@@ -9,7 +9,7 @@ use Rattle.sf_actor_set.specs.sf_actor.declared.holding.Holding.{Holding}
 use Rattle.sf_actor_set.specs.sf_actor.declared.holding.Holding.TheVariants as holding
 use Rattle.sf_actor_set.specs.sf_actor.Makers.{BufferOf, Maker, Run, buffer_in, followed, is_before, same_maker}
 use Rattle.sf_actor_set.specs.sf_actor.Names.{is_owing}
-use Rattle.sf_actor_set.specs.sf_actor.Parts.{token_of, turn_held}
+use Rattle.sf_actor_set.specs.sf_actor.Holdings.{token_of, turn_held}
 use Rattle.sf_actor_set.specs.sf_actor.Rights.{Turn}
 use Rattle.sf_actor_set.specs.sf_actor.Tries.{ActorOf}
 use Rattle.law_played.specs.Turns.{owed_frame}

@@ -15,7 +15,7 @@ use Rattle.sf_actor_set.specs.sf_actor.Asking.{Asked, call_of, overtaken_by}
 use Rattle.sf_actor_set.specs.sf_actor.Makers.{BufferOf, Run, attached_at, before_attach, is_attached, making_of, makes}
 use Rattle.sf_actor_set.specs.sf_actor.Names.{FrameOf}
 use Rattle.sf_actor_set.specs.sf_actor.Steps.{used_by, was_done}
-use Rattle.sf_actor_set.specs.sf_actor.Tales.{IsMade, made_on}
+use Rattle.sf_actor_set.specs.sf_actor.ScriptTraces.{IsMade, made_on}
 use Rattle.sf_actor_set.specs.sf_actor.Traces.{DoneAt, MadeStep, Past, Source, made_at, made_by, next, no_past, overtaken, own_call, places_from, places_of, release_at, source_in}
 use Rattle.sf_actor_set.specs.sf_actor.Tries.{ActorOf}
 use Rattle.law_played.specs.Actors.{number_of, trace_among}

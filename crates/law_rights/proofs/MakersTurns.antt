@@ -16,7 +16,7 @@ use Rattle.sf_actor_set.specs.sf_txn.Buffers.{Buffer}
 use Rattle.sf_actor_set.specs.sf_txn.Transactions.{Contents}
 use Rattle.sf_actor_set.specs.sf_actor.declared.holding.Holding.{Holding}
 use Rattle.sf_actor_set.specs.sf_actor.declared.holding.Holding.TheVariants as holding
-use Rattle.sf_actor_set.specs.sf_actor.Parts.{PartsOf}
+use Rattle.sf_actor_set.specs.sf_actor.Holdings.{HoldingsOf}
 use Rattle.sf_actor_set.specs.sf_actor.Rights.{Turn}
 use Rattle.sf_actor_set.specs.sf_actor.Tries.{ActorOf}
 use Rattle.law_rights.specs.Calls.{write_of, writes_in}
@@ -72,7 +72,7 @@ module _ {B : Type 0} where
   turn_of_name (Some (holding.Reads lease)) = refl
   turn_of_name (Some (holding.Frees queue loose)) = refl
 
-  turns_held : (parts : PartsOf B) → map turn_at (places_held parts) ≡ rights_of parts
+  turns_held : (parts : HoldingsOf B) → map turn_at (places_held parts) ≡ rights_of parts
   turns_held parts =
       joined turn_at (flat_map place_of parts.names) (flat_map places_in parts.transactions)
       ∙ two_joined _ _ _ _ (all_joined turn_at place_of right_of turn_of_name parts.names) (all_joined turn_at places_in rights_in turns_in parts.transactions)

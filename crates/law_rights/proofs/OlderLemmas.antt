@@ -18,7 +18,7 @@ use Rattle.sf_actor_set.specs.sf_actor.declared.holding.Holding.TheVariants as h
 use Rattle.sf_actor_set.specs.sf_actor.Desks.{DeskHome, DeskView}
 use Rattle.sf_actor_set.specs.sf_actor.Makers.{Run, is_older}
 use Rattle.sf_actor_set.specs.sf_actor.Names.{Holdings, Token, is_owing}
-use Rattle.sf_actor_set.specs.sf_actor.Parts.{token_of, turn_held}
+use Rattle.sf_actor_set.specs.sf_actor.Holdings.{token_of, turn_held}
 use Rattle.sf_actor_set.specs.sf_actor.Points.{undrawn_fence}
 use Rattle.sf_actor_set.specs.sf_actor.Rights.{Turn}
 use Rattle.sf_actor_set.specs.sf_actor.Scripts.{picture_at}

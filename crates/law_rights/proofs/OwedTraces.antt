@@ -20,7 +20,7 @@ use Rattle.sf_actor_set.specs.sf_actor.declared.done.Done.{Done}
 use Rattle.sf_actor_set.specs.sf_actor.declared.holding.Holding.TheVariants as holding
 use Rattle.sf_actor_set.specs.sf_actor.Desks.{DeskHome, DeskView}
 use Rattle.sf_actor_set.specs.sf_actor.Names.{Apart, Frame, Holdings, Lent, OwedFrame, Owing, Token, dropped_of, is_owing, moved, name_in, with_name}
-use Rattle.sf_actor_set.specs.sf_actor.Parts.{token_of}
+use Rattle.sf_actor_set.specs.sf_actor.Holdings.{token_of}
 use Rattle.sf_actor_set.specs.sf_actor.Steps.{attached, attached_read, detached, drawn_with, holdings_next, holdings_with, lent_by, owed_by, requested, shown_on, taken_by, was_done}
 use Rattle.sf_actor_set.specs.sf_actor.Traces.{DoneAt, Past, next, no_past, past_after, past_from, places_from, places_of}
 use Rattle.sf_actor_set.specs.sf_actor.Tries.{ActorOf, Keeps}

@@ -27,7 +27,7 @@ use Rattle.law_played.specs.Actors.{IsCallBy, IsRelease, number_of}
 use Rattle.law_played.proofs.Members.{has_joined, map_has}
 use Rattle.law_rights.specs.Actors.{AreOver}
 use Rattle.law_rights.specs.Calls.{buffers_in, made_of}
-use Rattle.law_rights.specs.Looks.{WasAcquired, is_written}
+use Rattle.law_rights.specs.Loads.{WasAcquired, is_written}
 use Rattle.law_rights.specs.Standing.{LedgerStands, state_of, stock_of}
 use Rattle.law_rights.specs.States.{all_buffers, all_written, ledger_of}
 use Rattle.law_rights.proofs.TurnCounts.{first, in_front, later, none_in, the_only}

@@ -20,7 +20,7 @@ use Rattle.sf_actor_set.specs.sf_actor.Asking.{Asked, call_of, queueing_of}
 use Rattle.sf_actor_set.specs.sf_actor.Desks.{DeskHome, DeskView, mark_among}
 use Rattle.sf_actor_set.specs.sf_actor.Scripts.{crop_of, fence_of}
 use Rattle.sf_actor_set.specs.sf_actor.Steps.{used_by}
-use Rattle.sf_actor_set.specs.sf_actor.Tales.{IsMade, made_on}
+use Rattle.sf_actor_set.specs.sf_actor.ScriptTraces.{IsMade, made_on}
 use Rattle.sf_actor_set.specs.sf_actor.Traces.{DoneAt, MadeStep, made_at, made_by, overtaken, own_call, places_of, source_in}
 use Rattle.sf_actor_set.specs.sf_actor.Tries.{ActorOf, Keeps}
 use Rattle.law_played.specs.Runs.{calls_of}

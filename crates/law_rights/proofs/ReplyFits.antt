@@ -20,7 +20,7 @@ use Rattle.sf_actor_set.specs.sf_surface.Hands.{IsReply, brought, owes}
 use Rattle.sf_actor_set.specs.sf_surface.Tokens.{WriteLeaseOf, turn_of}
 use Rattle.sf_actor_set.specs.sf_actor.declared.holding.Holding.{Holding}
 use Rattle.sf_actor_set.specs.sf_actor.Makers.{BufferOf, is_attached, loose_buffer}
-use Rattle.sf_actor_set.specs.sf_actor.Parts.{token_of}
+use Rattle.sf_actor_set.specs.sf_actor.Holdings.{token_of}
 use Rattle.sf_actor_set.specs.sf_actor.Rights.{turn_by}
 use Rattle.sf_actor_set.specs.sf_actor_steps.declared.asking.Asking.{Asking}
 use Rattle.sf_actor_set.specs.sf_actor_steps.declared.asking.Homes.{Homes}

@@ -31,7 +31,7 @@ use Rattle.sf_slots.specs.Events.{frames_queued, freed_after, items_after}
 use Rattle.sf_slots.specs.History.{events, slot_after, told_by}
 use Rattle.sf_slots.specs.Replies.{acquired_item, dequeued_from, dropped_count, front_after_drops, given_by, has_size, is_crop_of, is_producer_full, is_taken, is_wrong_size, refusal_of, refused_or, reply_after, reply_told, size_asked}
 use Rattle.sf_slots.specs.Told.{Told, first_freed, is_bare, is_in, lowest_bare, slot_at, slot_for, unused, usable}
-use Rattle.sf_slots.proofs.Going.{lent_there, own_unmet, unmet}
+use Rattle.sf_slots.proofs.HistoryGoesOn.{lent_there, own_unmet, unmet}
 use Rattle.law_rights.specs.Slots.{is_home, is_home_after}
 use Rattle.law_rights.proofs.Homes.{IsFreeAfter, WaitsQueued, freed_free, items_wait}
 use Rattle.law_rights.proofs.RightPlaces.{got}

@@ -21,10 +21,10 @@ use Rattle.sf_actor_set.specs.sf_actor.declared.tried.Reply.{Reply}
 use Rattle.sf_actor_set.specs.sf_actor.declared.tried.Stepped.{Stepped}
 use Rattle.sf_actor_set.specs.sf_actor.declared.tried.Stepped.TheVariants as stepped
 use Rattle.sf_actor_set.specs.sf_actor.Desks.{DeskHome, DeskView, has_queue}
-use Rattle.sf_actor_set.specs.sf_actor.Parts.{PartsOf}
+use Rattle.sf_actor_set.specs.sf_actor.Holdings.{HoldingsOf}
 use Rattle.sf_actor_set.specs.sf_actor.Plain.{PlainOf, calls_among, home_of, is_queue, view_of}
 use Rattle.sf_actor_set.specs.sf_actor.Scripts.{picture_at}
-use Rattle.sf_actor_set.specs.sf_actor.Tales.{step_done}
+use Rattle.sf_actor_set.specs.sf_actor.ScriptTraces.{step_done}
 use Rattle.sf_actor_set.specs.sf_actor.Tests.{refusal_of}
 use Rattle.sf_actor_set.specs.sf_actor.Tries.{ActorOf, DoesStep, Keeps, Tries, next_step}
 use Rattle.sf_actor_set.specs.sf_actor_steps.declared.actor.Actor.{Actor}
@@ -198,7 +198,7 @@ module _ {B : Type 0} where
       waiting = waits_more;
       on = refl;
       unmade = λ number permit. permits_unmade (picture_at pictures) (home_of before) (view_of before) ofs over place number steps.old steps.here stands.once
-          (subst (λ (parts : PartsOf B). Contains parts.stock number) (sym was_kept.is.parts) permit);
+          (subst (λ (parts : HoldingsOf B). Contains parts.stock number) (sym was_kept.is.parts) permit);
       attempts = acts.attempts;
     }
       where

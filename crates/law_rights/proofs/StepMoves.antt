@@ -23,7 +23,7 @@ use Rattle.sf_actor_set.specs.sf_actor.declared.done.Answered.TheVariants as ans
 use Rattle.sf_actor_set.specs.sf_actor.declared.done.Done.{Done}
 use Rattle.sf_actor_set.specs.sf_actor.declared.holding.Holding.TheVariants as holding
 use Rattle.sf_actor_set.specs.sf_actor.Names.{Lent, Token}
-use Rattle.sf_actor_set.specs.sf_actor.Parts.{drawn_picture, token_of}
+use Rattle.sf_actor_set.specs.sf_actor.Holdings.{drawn_picture, token_of}
 use Rattle.sf_actor_set.specs.sf_actor.Rights.{turn_by}
 use Rattle.sf_actor_set.specs.sf_actor.Scripts.{crop_of, fence_of}
 use Rattle.sf_actor_set.specs.sf_actor.Traces.{DoneAt, Past, next, no_past, past_after, past_from, places_from, places_of}

@@ -39,11 +39,11 @@ use Rattle.sf_actor_set.specs.sf_actor.Asking.{Asked, call_of, queueing_of}
 use Rattle.sf_actor_set.specs.sf_actor.Desks.{DeskHome, DeskView, known_of, mark_among}
 use Rattle.sf_actor_set.specs.sf_actor.Known.{Call, call_after, own_calls, share_of, told_by}
 use Rattle.sf_actor_set.specs.sf_actor.Names.{Holdings, Lent}
-use Rattle.sf_actor_set.specs.sf_actor.Parts.{PartsOf, drawn_picture, plain_of, token_of}
+use Rattle.sf_actor_set.specs.sf_actor.Holdings.{HoldingsOf, drawn_picture, plain_of, token_of}
 use Rattle.sf_actor_set.specs.sf_actor.Rights.{Turn}
 use Rattle.sf_actor_set.specs.sf_actor.Steps.{used_by, was_done}
 use Rattle.sf_actor_set.specs.sf_actor.Scripts.{fence_of}
-use Rattle.sf_actor_set.specs.sf_actor.Tales.{IsMade, made_on, step_done}
+use Rattle.sf_actor_set.specs.sf_actor.ScriptTraces.{IsMade, made_on, step_done}
 use Rattle.sf_actor_set.specs.sf_actor.Tests.{refusal_of}
 use Rattle.sf_actor_set.specs.sf_actor.Traces.{AnswersCall, AnswersTests, DoneAt, IsAnswered, MadeStep, Past, made_at, made_by, overtaken, own_call, past_after, places_of, source_in}
 use Rattle.sf_actor_set.specs.sf_actor.Tries.{ActorOf, DoesStep, Keeps, Tries, ended_by, held_in, next_step, owed_turn}
@@ -231,7 +231,7 @@ module _ {B : Type 0} (pictures : ℕ → Picture) (home : DeskHome) (was is : A
       let done : does.done ≡ record { step = step.Draw name p; answered = answered.Own 0 } =
       done_is pictures home was is (step.Draw name p) before after old new traced reply does ∙ ap (λ (a : Answered). record { step = step.Draw name p; answered = a }) told in
       does.ended ∙ ap (λ (d : Done). old.view.turns.leaves ++ ended_by was.parts d) done
-      ∙ ap (λ (o : Option (Holding B)). old.view.turns.leaves ++ owed_turn o) (ap (λ (parts : PartsOf B). held_in parts name) traced.parts ∙ there)
+      ∙ ap (λ (o : Option (Holding B)). old.view.turns.leaves ++ owed_turn o) (ap (λ (parts : HoldingsOf B). held_in parts name) traced.parts ∙ there)
 
   lease_writes : (lease : WriteLeaseOf) → get_or before.names name None ≡ Some (holding.Lends lease) → written.written_by (holdings_of before) (step.Draw name p) (answered.Own 0) ≡ []
   lease_writes lease there = draw_writes before name p (holding.Lends lease) there

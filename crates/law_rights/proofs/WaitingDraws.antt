@@ -13,7 +13,7 @@ use Rattle.sf_actor_set.specs.sf_turns.Views.{SeatView}
 use Rattle.sf_actor_set.specs.sf_actor.declared.holding.Holding.{Holding}
 use Rattle.sf_actor_set.specs.sf_actor.declared.holding.Holding.TheVariants as holding
 use Rattle.sf_actor_set.specs.sf_actor.Desks.{DeskHome, DeskView}
-use Rattle.sf_actor_set.specs.sf_actor.Parts.{turn_held}
+use Rattle.sf_actor_set.specs.sf_actor.Holdings.{turn_held}
 use Rattle.sf_actor_set.specs.sf_actor.Rights.{Turn, issued_turn, turn_by}
 use Rattle.sf_actor_set.specs.sf_actor.Tries.{ActorOf}
 use Rattle.law_rights.specs.Actors.{AreOver}

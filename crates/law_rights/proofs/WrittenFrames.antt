@@ -23,7 +23,7 @@ use Rattle.law_played.specs.Runs.{written_in}
 use Rattle.law_played.proofs.RisingNumbers.{rising_actors_are}
 use Rattle.law_played.proofs.RunTraces.{trace_here}
 use Rattle.law_rights.specs.Actors.{AreOver}
-use Rattle.law_rights.specs.Looks.{WasAcquired}
+use Rattle.law_rights.specs.Loads.{WasAcquired}
 use Rattle.law_rights.specs.Standing.{LedgerStands, state_of}
 use Rattle.law_rights.specs.States.{all_written}
 use Rattle.law_rights.proofs.TurnCounts.{first, later}

@@ -2,7 +2,7 @@ pub mod Actors
 pub mod Calls
 pub mod InTurn
 pub mod Ledgers
-pub mod Looks
+pub mod Loads
 pub mod MakerCalls
 pub mod MakerRuns
 pub mod MakerSteps

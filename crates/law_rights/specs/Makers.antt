@@ -17,7 +17,7 @@ use Rattle.sf_actor_set.specs.sf_txn.Transactions.{Contents}
 use Rattle.sf_actor_set.specs.sf_actor.declared.holding.Holding.{Holding}
 use Rattle.sf_actor_set.specs.sf_actor.declared.holding.Holding.TheVariants as holding
 use Rattle.sf_actor_set.specs.sf_actor.Makers.{BufferOf, Maker, Run, before_attach, making_of}
-use Rattle.sf_actor_set.specs.sf_actor.Parts.{PartsOf}
+use Rattle.sf_actor_set.specs.sf_actor.Holdings.{HoldingsOf}
 use Rattle.sf_actor_set.specs.sf_actor.Rights.{Turn, issued_turn, turn_by}
 use Rattle.sf_actor_set.specs.sf_actor.Tries.{ActorOf}
 use Rattle.law_rights.specs.Ledgers.{Write}
@@ -134,10 +134,10 @@ module _ {B : Type 0} where
   place_owed (Some (holding.Owes owing held)) = record { write = record { turn = issued_turn owing.turn; frame = (owing.queue, owing.frame) }; number = held.number } ∷ []
   place_owed other = []
 
-  abbrev pub places_held : PartsOf B → List RightAt
+  abbrev pub places_held : HoldingsOf B → List RightAt
   places_held parts = flat_map place_of parts.names ++ flat_map places_in parts.transactions
 
-  abbrev pub places_owed : PartsOf B → List WriteAt
+  abbrev pub places_owed : HoldingsOf B → List WriteAt
   places_owed parts = flat_map place_owed parts.names
 
   -- the rights that lie in the 64 slots of a queue

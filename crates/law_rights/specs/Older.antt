@@ -3,7 +3,7 @@ use Rattle.std.specs.Prelude.{◌≡◌, ◌<◌, true, List, Contains, Some}
 use Rattle.sf_actor_set.specs.sf_actor.declared.holding.Holding.{Holding}
 use Rattle.sf_actor_set.specs.sf_actor.Makers.{BufferOf, Maker, buffer_in, is_before, same_maker}
 use Rattle.sf_actor_set.specs.sf_actor.Names.{is_owing}
-use Rattle.sf_actor_set.specs.sf_actor.Parts.{token_of, turn_held}
+use Rattle.sf_actor_set.specs.sf_actor.Holdings.{token_of, turn_held}
 use Rattle.sf_actor_set.specs.sf_actor.Tries.{ActorOf}
 use Rattle.law_played.specs.Turns.{owed_frame}
 use Rattle.law_rights.specs.Owed.{MayDraw}

@@ -6,7 +6,7 @@ use Rattle.sf_actor_set.specs.sf_actor.declared.holding.Holding.{Holding}
 use Rattle.sf_actor_set.specs.sf_actor.declared.holding.Holding.TheVariants as holding
 use Rattle.sf_actor_set.specs.sf_actor.Desks.{DeskHome, DeskView, known_of}
 use Rattle.sf_actor_set.specs.sf_actor.Known.{share_of}
-use Rattle.sf_actor_set.specs.sf_actor.Parts.{turn_held}
+use Rattle.sf_actor_set.specs.sf_actor.Holdings.{turn_held}
 use Rattle.sf_actor_set.specs.sf_actor.Rights.{Turn, WasGivenAt, issued_turn}
 use Rattle.sf_actor_set.specs.sf_actor.Tries.{ActorOf}
 use Rattle.sf_actor_set.specs.sf_actor.Written.{FrameNumber}

@@ -13,7 +13,7 @@ use Rattle.sf_actor_set.specs.sf_txn.Transactions.{Contents}
 use Rattle.sf_actor_set.specs.sf_actor.declared.holding.Holding.{Holding}
 use Rattle.sf_actor_set.specs.sf_actor.declared.holding.Holding.TheVariants as holding
 use Rattle.sf_actor_set.specs.sf_actor.Desks.{DeskView, mark_among}
-use Rattle.sf_actor_set.specs.sf_actor.Parts.{PartsOf}
+use Rattle.sf_actor_set.specs.sf_actor.Holdings.{HoldingsOf}
 use Rattle.sf_actor_set.specs.sf_actor.Rights.{Turn, issued_turn, turn_by}
 use Rattle.sf_actor_set.specs.sf_actor.Tries.{ActorOf}
 use Rattle.sf_actor_set.specs.sf_actor.Written as written
@@ -71,10 +71,10 @@ module _ {B : Type 0} where
   write_owed (Some (holding.Owes owing held)) = record { turn = issued_turn owing.turn; frame = (owing.queue, owing.frame) } ∷ []
   write_owed other = []
 
-  abbrev pub rights_of : PartsOf B → List Turn
+  abbrev pub rights_of : HoldingsOf B → List Turn
   rights_of parts = flat_map right_of parts.names ++ flat_map rights_in parts.transactions
 
-  abbrev pub owed_of : PartsOf B → List Write
+  abbrev pub owed_of : HoldingsOf B → List Write
   owed_of parts = flat_map write_owed parts.names
 
 -- a call on a queue was made, and nobody else called meanwhile

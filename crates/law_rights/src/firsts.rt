@@ -1,3 +1,5 @@
+//! A law about a look that shows that all earlier turns at pixels have left, called for its clauses
+//! alone.
 ghost use Rattle.std.specs.Prelude.{◌≡◌, ℕ, List, Contains, true};
 ghost use Rattle.sf_actor_set.specs.sf_picture.declared.picture.Picture.{Picture};
 ghost use Rattle.sf_actor_set.specs.sf_turns.Counts.{IsExact};
@@ -13,7 +15,7 @@ ghost use Rattle.law_rights.specs.Actors.{AreOver};
 ghost use Rattle.law_rights.specs.Makers.{MakersStand};
 ghost use Rattle.law_rights.specs.Standing.{LedgerStands, state_of};
 
-use sf_actor_set::sf_turns::TableName;
+use sf_actor_set::TableName;
 
 /// Where a ledger stands, and its makers, a look that shows that all earlier turns at pixels have
 /// left finds no older draw that is owed.

@@ -1,3 +1,5 @@
+//! Laws about the ledger of rights to pixels: what a call, a try, a vsync or a release does to it,
+//! and what it tells. They are called for their clauses alone.
 ghost use Rattle.std.specs.Prelude.{◌≡◌, ℕ, ◌<◌, ◌≤◌, true, List, All, Contains, map, None, Some, length, slice_get, slice_set};
 ghost use Rattle.std.specs.List.{flat_map};
 ghost use Rattle.sf_actor_set.specs.sf_picture.declared.picture.Picture.{Picture};
@@ -35,7 +37,7 @@ ghost use Rattle.law_played.specs.Runs.{written_in};
 ghost use Rattle.sf_actor_set.specs.sf_turns.Views.{SeatView};
 ghost use Rattle.sf_actor_set.specs.sf_surface.Drawing.{IsShort};
 ghost use Rattle.sf_actor_set.specs.sf_actor.declared.holding.Holding.{Holding};
-ghost use Rattle.sf_actor_set.specs.sf_actor.Parts.{turn_held};
+ghost use Rattle.sf_actor_set.specs.sf_actor.Holdings.{turn_held};
 ghost use Rattle.sf_actor_set.specs.sf_actor.declared.done.Done.{Done};
 ghost use Rattle.sf_actor_set.specs.sf_actor.Draws.{DrawInTurn, IsInOrder, entered_at, entered_in};
 ghost use Rattle.sf_actor_set.specs.sf_actor.Known.{Share};
@@ -45,7 +47,7 @@ ghost use Rattle.law_rights.specs.Stays.{AreStays, maker_of};
 ghost use Rattle.law_rights.specs.Owed.{EntersLast, HasEarlier, MayDraw};
 ghost use Rattle.law_rights.specs.Calls.{MovesRights};
 ghost use Rattle.law_rights.specs.Ledgers.{IsLedger, Ledger};
-ghost use Rattle.law_rights.specs.Looks.{IsQueuedFrame, WasAcquired, is_written};
+ghost use Rattle.law_rights.specs.Loads.{IsQueuedFrame, WasAcquired, is_written};
 ghost use Rattle.law_rights.specs.Moves.{MayMove, Move, Moves};
 ghost use Rattle.law_rights.specs.Actors.{AreOver};
 ghost use Rattle.law_rights.specs.Standing.{Begins, LedgerStands, VsyncIn, home_taken, state_of, stock_of};
@@ -54,9 +56,7 @@ ghost use Rattle.law_rights.specs.Steps.{CallStep};
 ghost use Rattle.law_rights.specs.Tries.{TriesIn};
 ghost use Rattle.law_rights.specs.Vsyncs.{DecidesIn, IsOfTurns, ReleasesIn};
 
-use sf_actor_set::sf_surface::ReadLease;
-use sf_actor_set::sf_turns::TableName;
-use sf_actor_set::sf_txn::Lease;
+use sf_actor_set::{Lease, ReadLease, TableName};
 
 /// Whatever may happen to a ledger, it stays one.
 pub fn a_move_keeps_a_ledger()

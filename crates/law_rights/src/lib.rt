@@ -33,8 +33,7 @@ pub use older::an_earlier_turn_is_an_older_draw;
 pub use runs::{
     a_step_leaves_makers_standing, a_vsync_leaves_makers_standing, standing_makers_tell,
 };
-pub use sf_actor_set;
-pub use sf_actor_set::{sf_actor_steps, sf_surface, sf_turns, sf_txn};
+pub use sf_actor_set::{Actor, ActorSet, Lease, ReadLease, TableName, permits_for};
 pub use turns::{
     a_draw_that_enters_is_in_turn, a_step_leaves_draws_in_turn, a_vsync_leaves_draws_in_turn,
     draws_in_turn_come_after_what_was_owed, draws_stand_at_the_beginning,

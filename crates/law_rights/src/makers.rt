@@ -1,3 +1,5 @@
+//! Laws about the makers of buffers: what a call does to the places of rights, and that each buffer
+//! is followed back to the dequeue that made it.
 ghost use Rattle.std.specs.Prelude.{◌≡◌, map, is_some, true, ℕ, ◌<◌, ◌≤◌, ◌⊎◌, List, [], ◌∷◌, ◌++◌, length, Contains, ◌+◌};
 ghost use Rattle.sf_actor_set.specs.sf_picture.declared.picture.Picture.{Picture};
 ghost use Rattle.sf_actor_set.specs.sf_script_scene.declared.step.Step.{Step};
@@ -27,9 +29,7 @@ ghost use Rattle.law_rights.specs.Standing.{Begins, LedgerStands, VsyncIn, home_
 ghost use Rattle.law_rights.specs.States.{State, ledger_of};
 ghost use Rattle.law_rights.specs.Tries.{TriesIn};
 
-use sf_actor_set::sf_surface::ReadLease;
-use sf_actor_set::sf_turns::TableName;
-use sf_actor_set::sf_txn::Lease;
+use sf_actor_set::{Lease, ReadLease, TableName};
 
 /// Where the ledger of a state stands, and its makers are followed through a run, they tell of the
 /// turns at buffers.

@@ -1,3 +1,4 @@
+//! A law that says which draw an earlier turn belongs to, called for its clauses alone.
 ghost use Rattle.std.specs.Prelude.{◌≡◌, ℕ, List, Contains, true};
 ghost use Rattle.sf_actor_set.specs.sf_picture.declared.picture.Picture.{Picture};
 ghost use Rattle.sf_actor_set.specs.sf_turns.Counts.{IsExact};
@@ -13,7 +14,7 @@ ghost use Rattle.law_rights.specs.Actors.{AreOver};
 ghost use Rattle.law_rights.specs.Older.{MakersTell};
 ghost use Rattle.law_rights.specs.Standing.{LedgerStands};
 
-use sf_actor_set::sf_turns::TableName;
+use sf_actor_set::TableName;
 
 /// Where a ledger stands, and makers tell of the turns at buffers, an earlier turn that has not left
 /// is that of an older draw that is owed.

@@ -1,3 +1,4 @@
+//! Laws that makers stand from the begin of a run on, step by step and vsync by vsync.
 ghost use Rattle.std.specs.Prelude.{◌≡◌, ℕ, List, All, Contains, map, true, slice_set};
 ghost use Rattle.std.specs.List.Sorted.{IsStrictlyIncreasing};
 ghost use Rattle.atomic_table.specs.Seated.{TableId};
@@ -22,9 +23,7 @@ ghost use Rattle.law_rights.specs.MakerRuns.{AreDeclared, MakersPlay};
 ghost use Rattle.law_rights.specs.Older.{MakersTell};
 ghost use Rattle.law_rights.specs.Standing.{LedgerStands, VsyncIn, home_taken};
 
-use sf_actor_set::sf_surface::ReadLease;
-use sf_actor_set::sf_turns::TableName;
-use sf_actor_set::sf_txn::Lease;
+use sf_actor_set::{Lease, ReadLease, TableName};
 
 /// Makers stand after a try of an actor's step.
 pub fn a_step_leaves_makers_standing<B: TableName>()

@@ -1,3 +1,4 @@
+//! Laws about draws: each enters pixels after those that were owed to them before.
 ghost use Rattle.std.specs.Prelude.{◌≡◌, ◌<◌, ℕ, List, [], All, Contains, length, slice_set, true, false};
 ghost use Rattle.atomic_table.specs.Seated.{TableId};
 ghost use Rattle.sf_actor_set.specs.sf_actor.declared.tried.Stepped.{Stepped};
@@ -15,7 +16,7 @@ ghost use Rattle.sf_actor_set.specs.sf_turns.Counts.{IsExact};
 ghost use Rattle.sf_actor_set.specs.sf_turns.Views.{SeatView};
 ghost use Rattle.sf_actor_set.specs.sf_actor.declared.holding.Holding.{Holding};
 ghost use Rattle.sf_actor_set.specs.sf_actor.Desks.{DeskHome, DeskView, has_queue};
-ghost use Rattle.sf_actor_set.specs.sf_actor.Parts.{token_of, turn_held};
+ghost use Rattle.sf_actor_set.specs.sf_actor.Holdings.{token_of, turn_held};
 ghost use Rattle.sf_actor_set.specs.sf_actor.Traces.{DoneAt};
 ghost use Rattle.sf_actor_set.specs.sf_actor.Tries.{ActorOf};
 ghost use Rattle.law_played.specs.Actors.{AreActors, run_of};
@@ -28,9 +29,7 @@ ghost use Rattle.law_rights.specs.InTurn.{DrawsStand, IsInTurn};
 ghost use Rattle.law_rights.specs.MakerRuns.{AreDeclared, MakersPlay};
 ghost use Rattle.law_rights.specs.Makers.{MakersStand, places_of};
 
-use sf_actor_set::sf_surface::ReadLease;
-use sf_actor_set::sf_turns::TableName;
-use sf_actor_set::sf_txn::Lease;
+use sf_actor_set::{Lease, ReadLease, TableName};
 
 /// A draw that enters pixels is in turn.
 pub fn a_draw_that_enters_is_in_turn<B: TableName>()

@@ -17,7 +17,7 @@ use Rattle.law_draws.specs.sf_surface.Tokens.{ReadLeaseOf}
 use Rattle.law_draws.specs.sf_token.Arrivals.{waiting}
 use Rattle.law_draws.specs.sf_token.Pending.{Arrival}
 use Rattle.law_draws.specs.sf_actor.Desks.{DeskHome, DeskView, MadeCall, has_queue, mark_among}
-use Rattle.law_draws.specs.sf_actor.Parts.{PartsOf}
+use Rattle.law_draws.specs.sf_actor.Holdings.{HoldingsOf}
 use Rattle.law_draws.specs.sf_actor.Rights.{Turn}
 use Rattle.law_draws.specs.sf_actor.Tests.{refusal_of}
 use Rattle.law_draws.specs.sf_actor.Tries.{ActorOf}
@@ -204,7 +204,7 @@ module _ {B : Type 0} (whole : Whole B) (pictures : ℕ → Picture) (home : Des
     unmade : (number : ℕ) → Contains (permits_of before) number → Contains (all_buffers from_state.marks from_state.view.calls) number → ⊥
     unmade number permit there =
         let at = in_some (λ (m : QueueMark). buffers_in m (calls_at whole heights m.queue.0)) whole.marks number there in
-        unused number at.0 (Contains-append_left was.parts.stock [] number (subst (λ (parts : PartsOf B). Contains parts.stock number) (sym tries.parts_was) permit)) at.1 at.2
+        unused number at.0 (Contains-append_left was.parts.stock [] number (subst (λ (parts : HoldingsOf B). Contains parts.stock number) (sym tries.parts_was) permit)) at.1 at.2
 
     tries_in : TriesIn pictures (exactly home) place s (tried.Called status values) before after from_state to_state
     tries_in = record {

@@ -19,7 +19,7 @@ use Rattle.law_draws.specs.sf_actor.declared.holding.Holding.{Holding}
 use Rattle.law_draws.specs.sf_actor.Desks.{DeskHome, DeskView, has_queue, mark_among}
 use Rattle.law_draws.specs.sf_actor.Known.{Call, call_after, own_calls}
 use Rattle.law_draws.specs.sf_actor.Names.{Holdings}
-use Rattle.law_draws.specs.sf_actor.Parts.{plain_of, turn_held}
+use Rattle.law_draws.specs.sf_actor.Holdings.{plain_of, turn_held}
 use Rattle.law_draws.specs.sf_actor.Rights.{Turn, WasGivenAt}
 use Rattle.law_draws.specs.sf_actor.Tries.{ActorOf, held_in, past_of}
 use Rattle.law_draws.specs.sf_actor_steps.declared.bindings.Bindings.{Bindings}

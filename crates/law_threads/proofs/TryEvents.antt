@@ -18,7 +18,7 @@ use Rattle.law_draws.specs.sf_actor.declared.done.Done.{Done}
 use Rattle.law_draws.specs.sf_actor.declared.holding.Holding.{Holding}
 use Rattle.law_draws.specs.sf_actor.declared.holding.Holding.TheVariants as holding
 use Rattle.law_draws.specs.sf_actor.Desks.{ChangesTimes, DeskHome, DeskView}
-use Rattle.law_draws.specs.sf_actor.Parts.{PartsOf, token_of}
+use Rattle.law_draws.specs.sf_actor.Holdings.{HoldingsOf, token_of}
 use Rattle.law_draws.specs.sf_actor.Rights.{Turn, issued_turn}
 use Rattle.law_draws.specs.sf_actor.Tests.{refusal_of}
 use Rattle.law_draws.specs.sf_actor.Tries.{ActorOf, ended_by, held_in, owed_turn}
@@ -75,8 +75,8 @@ module _ {B : Type 0} (whole : Whole B) (pictures : ℕ → Picture) (home : Des
       less : (w : RightAt → ℕ) → sum_by w (places_held is.parts) + sum_by w (map right_read more) ≤ sum_by w (places_held was.parts)
       less w =
           let fewer = rest.less w in
-          let a = ap (λ (parts : PartsOf B). sum_by w (places_held parts)) tries.parts_was in
-          let b = ap (λ (parts : PartsOf B). sum_by w (places_held parts)) tries.parts_is in
+          let a = ap (λ (parts : HoldingsOf B). sum_by w (places_held parts)) tries.parts_was in
+          let b = ap (λ (parts : HoldingsOf B). sum_by w (places_held parts)) tries.parts_is in
           omega (arith, fewer, a, b)
 
       owed : Gets (places_owed was.parts) [] (places_owed is.parts)
@@ -94,8 +94,8 @@ module _ {B : Type 0} (whole : Whole B) (pictures : ℕ → Picture) (home : Des
       less : (w : RightAt → ℕ) → sum_by w (places_held is.parts) + sum_by w (map right_read []) ≤ sum_by w (places_held was.parts)
       less w =
           let fewer = pay.less w in
-          let a = ap (λ (parts : PartsOf B). sum_by w (places_held parts)) tries.parts_was in
-          let b = ap (λ (parts : PartsOf B). sum_by w (places_held parts)) tries.parts_is in
+          let a = ap (λ (parts : HoldingsOf B). sum_by w (places_held parts)) tries.parts_was in
+          let b = ap (λ (parts : HoldingsOf B). sum_by w (places_held parts)) tries.parts_is in
           omega (arith, fewer, a, b)
 
   -- a try that changed bindings alone
@@ -165,7 +165,7 @@ module _ {B : Type 0} (whole : Whole B) (pictures : ℕ → Picture) (home : Des
         let done : tries.does.done ≡ record { step = step.Draw name p; answered = answered.Own 0 } =
         done_is pictures home was is (step.Draw name p) before after old new came_to tries ∙ ap (λ (a : Answered). record { step = step.Draw name p; answered = a }) told in
         tries.does.ended ∙ ap (λ (d : Done). old.turns.leaves ++ ended_by was.parts d) done
-        ∙ ap (λ (o : Option (Holding B)). old.turns.leaves ++ owed_turn o) (ap (λ (parts : PartsOf B). held_in parts name) tries.parts_was ∙ there)
+        ∙ ap (λ (o : Option (Holding B)). old.turns.leaves ++ owed_turn o) (ap (λ (parts : HoldingsOf B). held_in parts name) tries.parts_was ∙ there)
 
     waited_wrote : (held : Holding B) → get_or before.names name None ≡ Some held → new.turns.leaves ≡ old.turns.leaves → Gets (written.written_in was.trace) [] (written.written_in is.trace)
     waited_wrote (holding.Lends lease) there same = lease_wrote lease there

@@ -21,7 +21,7 @@ use Rattle.law_draws.specs.sf_actor.declared.done.Answered.{Answered}
 use Rattle.law_draws.specs.sf_actor.declared.done.Answered.TheVariants as answered
 use Rattle.law_draws.specs.sf_actor.Desks.{DeskHome, DeskView, has_queue, mark_among}
 use Rattle.law_draws.specs.sf_actor.Names.{Holdings, name_in}
-use Rattle.law_draws.specs.sf_actor.Parts.{PartsOf}
+use Rattle.law_draws.specs.sf_actor.Holdings.{HoldingsOf}
 use Rattle.law_draws.specs.sf_actor.Points.{frame_fence, requested_fence}
 use Rattle.law_draws.specs.sf_actor.Rights.{Turn}
 use Rattle.law_draws.specs.sf_actor.Tests.{bad_value, first_met, refusal_of}
@@ -206,8 +206,8 @@ module _ {B : Type 0} (whole : Whole B) (pictures : ℕ → Picture) (home : Des
       less : (w : RightAt → ℕ) → sum_by w (places_held is.parts) + sum_by w (places_sent sends.sent) ≤ sum_by w (places_held was.parts)
       less w =
           let take = take_txn w before after txn sends.sent sends.takes in
-          let a = ap (λ (parts : PartsOf B). sum_by w (places_held parts)) tries.parts_was in
-          let b = ap (λ (parts : PartsOf B). sum_by w (places_held parts)) tries.parts_is in
+          let a = ap (λ (parts : HoldingsOf B). sum_by w (places_held parts)) tries.parts_was in
+          let b = ap (λ (parts : HoldingsOf B). sum_by w (places_held parts)) tries.parts_is in
           omega (arith, take, a, b)
 
       less_with : (arrived : Arrival ReadLeaseOf) → arrived.txn ≡ record sends.sent { token = record { 0 = token } } → (w : RightAt → ℕ) → sum_by w (places_held is.parts) + sum_by w (places_arrived arrived) ≤ sum_by w (places_held was.parts)

@@ -33,10 +33,10 @@ use Rattle.law_draws.specs.sf_actor.Asking.{Asked, call_of, queueing_of}
 use Rattle.law_draws.specs.sf_actor.Desks.{DeskHome, DeskView, known_of, mark_among}
 use Rattle.law_draws.specs.sf_actor.Known.{Call, call_after, own_calls, share_of, told_by}
 use Rattle.law_draws.specs.sf_actor.Names.{Holdings, Lent}
-use Rattle.law_draws.specs.sf_actor.Parts.{drawn_picture, plain_of, token_of}
+use Rattle.law_draws.specs.sf_actor.Holdings.{drawn_picture, plain_of, token_of}
 use Rattle.law_draws.specs.sf_actor.Steps.{used_by, was_done}
 use Rattle.law_draws.specs.sf_actor.Scripts.{fence_of}
-use Rattle.law_draws.specs.sf_actor.Tales.{IsMade, made_on, step_done}
+use Rattle.law_draws.specs.sf_actor.ScriptTraces.{IsMade, made_on, step_done}
 use Rattle.law_draws.specs.sf_actor.Tests.{refusal_of}
 use Rattle.law_draws.specs.sf_actor.Traces.{AnswersCall, AnswersTests, DoneAt, IsAnswered, MadeStep, Past, made_at, made_by, overtaken, own_call, past_after, places_of, source_in}
 use Rattle.law_draws.specs.sf_actor.Tries.{ActorOf}

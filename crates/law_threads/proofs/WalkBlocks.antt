@@ -25,7 +25,7 @@ use Rattle.law_draws.specs.sf_actor.Known.{call_after, own_calls, told_by}
 use Rattle.law_draws.specs.sf_actor.Names.{name_in}
 use Rattle.law_draws.specs.sf_actor.Points.{frame_fence, requested_fence}
 use Rattle.law_draws.specs.sf_actor.Rights.{made_with}
-use Rattle.law_draws.specs.sf_actor.Tales.{IsMade, made_on}
+use Rattle.law_draws.specs.sf_actor.ScriptTraces.{IsMade, made_on}
 use Rattle.law_draws.specs.sf_actor.Traces.{made_by}
 use Rattle.law_draws.specs.sf_actor.Tries.{ActorOf, Keeps}
 use Rattle.law_draws.specs.sf_actor_steps.declared.bindings.Bindings.{Bindings}

@@ -1,3 +1,5 @@
+//! A law about transactions on their way: what was sent arrives by the call that puts it among the
+//! arrivals.
 ghost use Rattle.std.specs.Prelude.{◌≡◌, ◌+◌, ◌++◌, ◌∷◌, ℕ, List, length};
 ghost use Rattle.law_draws.specs.sf_calls.declared.object.Entry.{Entry};
 ghost use Rattle.law_draws.specs.sf_surface.Tokens.{Issued, ReadLeaseOf};

@@ -1,3 +1,4 @@
+//! A law about all callers together: what each event keeps holds after all of them.
 ghost use Rattle.std.specs.Prelude.{◌≡◌, ℕ, List};
 ghost use Rattle.law_threads.specs.Cuts.{AreParts, Event, HasLedger, Local, Whole, all_now, many_of, spot_of, state_at};
 ghost use Rattle.law_threads.specs.Orders.{AreInTurn, IsCut, Spot, StampsRise};

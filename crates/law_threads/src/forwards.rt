@@ -1,3 +1,4 @@
+//! A law about transactions that arrive later than they were sent.
 ghost use Rattle.std.specs.Prelude.{◌≡◌, ◌<◌, ℕ, List, Contains};
 ghost use Rattle.law_draws.specs.sf_surface.Tokens.{ReadLeaseOf};
 ghost use Rattle.law_draws.specs.sf_token.Pending.{Arrival};

@@ -1,3 +1,5 @@
+//! Laws about the join of a run in threads: its ledger of rights stands, and its vsyncs are in
+//! order.
 ghost use Rattle.std.specs.Prelude.{◌≡◌, ℕ, ◌≤◌, List, map};
 ghost use Rattle.atomic_table.specs.Seated.{TableId};
 ghost use Rattle.law_draws.specs.sf_actor.Plain.{PlainOf, home_of, view_of};
@@ -11,8 +13,7 @@ ghost use Rattle.sf_live_compositor.specs.sf_live_seats.declared.first.FirstSeat
 ghost use Rattle.law_threads.specs.Stamped.{AreStamped};
 ghost use Rattle.sf_live_compositor.specs.Vsyncs.{Sitting, Vsyncs};
 
-use law_draws::sf_surface::ReadLease;
-use law_draws::sf_txn::Lease;
+use law_draws::{Lease, ReadLease};
 use sf_turns::TableName;
 
 /// At the join of a run in threads the ledger of rights stands, over the desk that is left, the

@@ -1,3 +1,4 @@
+//! Laws that lift a try from what its actor's desk knew to the state of all callers.
 ghost use Rattle.std.specs.Prelude.{◌≡◌, ◌++◌, ℕ, List, [], false};
 ghost use Rattle.sf_base.specs.declared.status.QStatus.{QStatus};
 ghost use Rattle.law_draws.specs.sf_calls.Histories.{IsLegal};

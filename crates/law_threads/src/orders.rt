@@ -1,3 +1,4 @@
+//! A law that the events of all callers can be done in one order.
 ghost use Rattle.std.specs.Prelude.{◌≡◌, ℕ, List, Option};
 ghost use Rattle.law_threads.specs.Orders.{AreInTurn, IsCut, Order, Spot, StampsRise};
 

@@ -1,3 +1,4 @@
+//! Laws that rights, makers and draws stand along that order, and at the join.
 ghost use Rattle.std.specs.Prelude.{◌≡◌, ◌++◌, ℕ, List, [], false, map};
 ghost use Rattle.law_draws.specs.sf_calls.Histories.{IsLegal};
 ghost use Rattle.sf_script_scene.specs.sf_picture.declared.picture.Picture.{Picture};
@@ -29,8 +30,7 @@ ghost use Rattle.law_threads.specs.Lifts.{Comes};
 ghost use Rattle.law_threads.specs.Rights.{calls_in};
 ghost use Rattle.law_threads.specs.Tries.{DoesTry};
 
-use law_draws::sf_surface::ReadLease;
-use law_draws::sf_txn::Lease;
+use law_draws::{Lease, ReadLease};
 use sf_turns::TableName;
 
 /// Any try that was done keeps, with the ledger, that makers are followed and draws are placed,

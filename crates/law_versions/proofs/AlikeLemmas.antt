@@ -31,11 +31,11 @@ use Rattle.sf_actor.specs.declared.done.Done.{Done}
 use Rattle.sf_record.specs.Events.{closing, event_records, events_records, output_record}
 use Rattle.sf_record.specs.declared.event.Event.{Event}
 use Rattle.sf_record.specs.declared.event.Event.TheVariants as event
-use Rattle.sf_record.specs.declared.event.VsyncReport.{VsyncReport}
-use Rattle.sf_record.specs.declared.record.Commit.{Commit}
+use Rattle.sf_record.specs.declared.event.VsyncRecords.{VsyncRecords}
+use Rattle.sf_record.specs.declared.record.CommitRecord.{CommitRecord}
 use Rattle.sf_record.specs.declared.record.Record.{Record}
 use Rattle.sf_record.specs.declared.record.Record.TheVariants as rec
-use Rattle.law_versions.proofs.RoomyPlays.{IsRoomyWorld, SaysRoom, actor_roomy, begins_roomy, have_room, vsync_roomy}
+use Rattle.law_versions.proofs.RoomyPlays.{IsRoomyState, SaysRoom, actor_roomy, begins_roomy, have_room, vsync_roomy}
 use Rattle.law_versions.proofs.WideRounds.{decided_wide, end_wide, wide}
 use Rattle.law_played.specs.Commits.{commit_shown, is_written}
 use Rattle.law_played.specs.Arrivals.{entry_of}
@@ -44,7 +44,7 @@ use Rattle.law_played.specs.Histories.{history_shown, rising_queues}
 use Rattle.law_played.specs.Frames.{is_done, plan_of, shown_due}
 use Rattle.law_played.specs.Holds.{uncommitted}
 use Rattle.law_played.specs.Played.{opening, records_of}
-use Rattle.law_played.specs.Plays.{Comes, GoesOnWith, IsPlay, Playing, TakesTurn, first_playing, goes, is_quiet, stays, with_round}
+use Rattle.law_played.specs.Plays.{Comes, GoesOnWith, IsPlay, Playing, TakesTransition, first_playing, goes, is_quiet, stays, with_round}
 use Rattle.law_played.specs.Progress.{held_shown, is_time, released_by}
 use Rattle.law_played.specs.Runs.{actor_number, final_values, rising, rising_actors, written_in}
 use Rattle.law_played.specs.Seeing.{value_shown}
@@ -52,7 +52,7 @@ use Rattle.law_played.specs.Stages.{bare_round, begun}
 use Rattle.law_played.specs.Stuck.{draw_waits, has_older, has_open_point, holdings_at_end, next_step, step_waits, stuck_if}
 use Rattle.law_versions.specs.Versions.{ArePlayedAlike, HadRoom, in_version_2}
 use Rattle.law_played.specs.Vsyncs.{commits_in, commits_of_vsync, rising_timelines, vsync_in, vsyncs_in}
-use Rattle.law_played.specs.Worlds.{DecidesNow, Turn, World, actor_turn, after_step, after_vsync, answer_by, answer_tested, asked_by, at_now, done_now, idle, is_open, is_open_at, release_asked, report_of, reports_if, round_now, script_turn, step_turn, waits_now, with_call, with_calls, with_list}
+use Rattle.law_played.specs.RunStates.{DecidesNow, Transition, RunState, actor_transition, after_step, after_vsync, answer_by, answer_tested, asked_by, at_now, done_now, idle, is_open, is_open_at, release_asked, report_of, reports_if, round_now, script_transition, step_transition, waits_now, with_call, with_calls, with_list}
 
 -- what is numbered up to here is nowhere behind it
 none_behind : {X : Type 0} (number : X → ℕ) (greatest : ℕ) (xs : List X) (from count : ℕ) → greatest < from → All (λ (x : X). number x ≤ greatest) xs
@@ -112,81 +112,81 @@ module _ (scene : SceneValue) (version : ℕ) (same : rising_actors (record scen
   open_same run None = refl
   open_same run (Some fence) = ap (λ (final : Seen). list_any (is_open_at final fence) (range_with_len 1 64)) (final_same run)
 
-  answer_same : (world : World) (script : ActorScript) (s : Step) (status : Option ℕ) → answer_tested other world script s status ≡ answer_tested scene world script s status
-  answer_same world script s (Some status) = refl
-  answer_same world script s None =
-      let holdings = holdings_at_end world.run script in
-      ap (λ (open_now : Bool). if open_now then answered.Own bad_value else answer_by scene world script.number (call_of (picture_at scene.pictures) holdings s) (sent_by holdings s))
-      (open_same world.run (detached_fence holdings s))
+  answer_same : (state : RunState) (script : ActorScript) (s : Step) (status : Option ℕ) → answer_tested other state script s status ≡ answer_tested scene state script s status
+  answer_same state script s (Some status) = refl
+  answer_same state script s None =
+      let holdings = holdings_at_end state.run script in
+      ap (λ (open_now : Bool). if open_now then answered.Own bad_value else answer_by scene state script.number (call_of (picture_at scene.pictures) holdings s) (sent_by holdings s))
+      (open_same state.run (detached_fence holdings s))
 
-  done_same : (world : World) (script : ActorScript) (s : Step) → done_now other world script s ≡ done_now scene world script s
+  done_same : (state : RunState) (script : ActorScript) (s : Step) → done_now other state script s ≡ done_now scene state script s
   unfolding done_now
-  done_same world script s =
-      ap (λ (a : Answered). record { step = s; answered = a }) (answer_same world script s (refusal_of (picture_at scene.pictures) (holdings_at_end world.run script) s))
+  done_same state script s =
+      ap (λ (a : Answered). record { step = s; answered = a }) (answer_same state script s (refusal_of (picture_at scene.pictures) (holdings_at_end state.run script) s))
 
-  waits_same : (world : World) (script : ActorScript) (s : Step) → waits_now other world script s ≡ waits_now scene world script s
+  waits_same : (state : RunState) (script : ActorScript) (s : Step) → waits_now other state script s ≡ waits_now scene state script s
   unfolding waits_now
-  waits_same world script s =
-      let holdings = holdings_at_end world.run script in
-      ap (λ (waits : Bool). is_none (refusal_of (picture_at scene.pictures) holdings s) && waits) (steps_same world.run script holdings s)
+  waits_same state script s =
+      let holdings = holdings_at_end state.run script in
+      ap (λ (waits : Bool). is_none (refusal_of (picture_at scene.pictures) holdings s) && waits) (steps_same state.run script holdings s)
 
   calls_same : (by place : ℕ) (run : Run) (asked : List Asked) → with_calls other by place run asked ≡ with_calls scene by place run asked
   unfolding with_calls
   calls_same by place run [] = refl
   calls_same by place run (asked ∷ later) = calls_same by place (with_call scene by place run asked) later
 
-  after_same : (world : World) (script : ActorScript) (done : Done) → after_step other world script done ≡ after_step scene world script done
-  after_same world script done =
-      let at = at_now world script done in
-      let run = record world.run { trace = with_list world.run.trace script.number (world.run.trace script.number ++ done ∷ []) } in
-      ap (λ (r : Run). record (after_step scene world script done) { world = record (after_step scene world script done).world { run = r } })
+  after_same : (state : RunState) (script : ActorScript) (done : Done) → after_step other state script done ≡ after_step scene state script done
+  after_same state script done =
+      let at = at_now state script done in
+      let run = record state.run { trace = with_list state.run.trace script.number (state.run.trace script.number ++ done ∷ []) } in
+      ap (λ (r : Run). record (after_step scene state script done) { state = record (after_step scene state script done).state { run = r } })
       (calls_same script.number at.place run (map asked_by (made_at (picture_at scene.pictures) at)))
 
-  step_same : (world : World) (script : ActorScript) (s : Option Step) → step_turn other world script s ≡ step_turn scene world script s
-  step_same world script None = refl
-  step_same world script (Some s) =
-      (λ i. if waits_same world script s i then idle world else after_step other world script (done_same world script s i))
-      ∙ ap (λ (turn : Turn). if waits_now scene world script s then idle world else turn) (after_same world script (done_now scene world script s))
+  step_same : (state : RunState) (script : ActorScript) (s : Option Step) → step_transition other state script s ≡ step_transition scene state script s
+  step_same state script None = refl
+  step_same state script (Some s) =
+      (λ i. if waits_same state script s i then idle state else after_step other state script (done_same state script s i))
+      ∙ ap (λ (transition : Transition). if waits_now scene state script s then idle state else transition) (after_same state script (done_now scene state script s))
 
-  script_same : (world : World) (script : Option ActorScript) → script_turn other world script ≡ script_turn scene world script
-  script_same world None = refl
-  script_same world (Some script) = step_same world script (next_step world.run script)
+  script_same : (state : RunState) (script : Option ActorScript) → script_transition other state script ≡ script_transition scene state script
+  script_same state None = refl
+  script_same state (Some script) = step_same state script (next_step state.run script)
 
-  actor_same : (number : ℕ) (world : World) → actor_turn other number world ≡ actor_turn scene number world
-  unfolding actor_turn
-  actor_same number world = script_same world (find (λ (script : ActorScript). script.number == number) scene.actors)
+  actor_same : (number : ℕ) (state : RunState) → actor_transition other number state ≡ actor_transition scene number state
+  unfolding actor_transition
+  actor_same number state = script_same state (find (λ (script : ActorScript). script.number == number) scene.actors)
 
   -- a vsync begins with the same layers, where there can be more
-  module _ (world : World) (roomy : IsRoomyWorld scene world) where
-    round_wide : round_now other world ≡ wide (most_layers version) (round_now scene world)
+  module _ (state : RunState) (roomy : IsRoomyState scene state) where
+    round_wide : round_now other state ≡ wide (most_layers version) (round_now scene state)
     unfolding round_now
     round_wide =
-        ap (λ (r : Round FrameOf). record (begun r) { pending = uncommitted world.arrivals (commits_in world.reports) })
-        (end_wide world.arrivals (most_layers version) (bare_round scene) world.reports more roomy.room).0
+        ap (λ (r : Round FrameOf). record (begun r) { pending = uncommitted state.arrivals (commits_in state.reports) })
+        (end_wide state.arrivals (most_layers version) (bare_round scene) state.reports more roomy.room).0
 
-    round_most : (round_now scene world).stage.tree.most ≤ most_layers version
+    round_most : (round_now scene state).stage.tree.most ≤ most_layers version
     unfolding round_now
-    round_most = (end_wide world.arrivals (most_layers version) (bare_round scene) world.reports more roomy.room).1
+    round_most = (end_wide state.arrivals (most_layers version) (bare_round scene) state.reports more roomy.room).1
 
-    held_same : (expected : ℕ) → held (is_written (written_in other world.run)) (final_values other world.run) expected (round_now other world)
-        ≡ held (is_written (written_in scene world.run)) (final_values scene world.run) expected (round_now scene world)
-    held_same expected = λ i. held (is_written (written_same world.run i)) (final_same world.run i) expected (round_wide i)
+    held_same : (expected : ℕ) → held (is_written (written_in other state.run)) (final_values other state.run) expected (round_now other state)
+        ≡ held (is_written (written_in scene state.run)) (final_values scene state.run) expected (round_now scene state)
+    held_same expected = λ i. held (is_written (written_same state.run i)) (final_same state.run i) expected (round_wide i)
 
-    quiet_same : (before : World) → is_quiet other before world ≡ is_quiet scene before world
+    quiet_same : (before : RunState) → is_quiet other before state ≡ is_quiet scene before state
     quiet_same before =
-        ap (λ (holds : List (ℕ × Hold)). list_all (λ (script : ActorScript). length (world.run.trace script.number) == length (before.run.trace script.number)) scene.actors
-        && ((length world.reports == length before.reports) && not (list_any (λ (h : ℕ × Hold). is_time h.1) holds)))
-        (held_same (world.vsyncs * scene.period))
+        ap (λ (holds : List (ℕ × Hold)). list_all (λ (script : ActorScript). length (state.run.trace script.number) == length (before.run.trace script.number)) scene.actors
+        && ((length state.reports == length before.reports) && not (list_any (λ (h : ℕ × Hold). is_time h.1) holds)))
+        (held_same (state.vsyncs * scene.period))
 
-    decides_same : (expected : ℕ) (end : Round FrameOf) → DecidesNow scene world expected end → All SaysRoom (map commit_shown end.stage.commits)
-        → DecidesNow other world expected (wide (most_layers version) end)
+    decides_same : (expected : ℕ) (end : Round FrameOf) → DecidesNow scene state expected end → All SaysRoom (map commit_shown end.stage.commits)
+        → DecidesNow other state expected (wide (most_layers version) end)
     decides_same expected end d said =
-        let decided = decided_wide (is_written (written_in scene world.run)) (final_values scene world.run) expected (most_layers version) (round_now scene world) end round_most d
-        (have_room scene world expected end d roomy said) in
-        subst (λ (r : Round FrameOf). Decided (is_written (written_in other world.run)) (final_values other world.run) expected r (wide (most_layers version) end)) (sym round_wide)
-        (subst (λ (final : Seen). Decided (is_written (written_in other world.run)) final expected (wide (most_layers version) (round_now scene world)) (wide (most_layers version) end)) (sym (final_same world.run))
-        (subst (λ (wrote : List written.FrameNumber). Decided (is_written wrote) (final_values scene world.run) expected (wide (most_layers version) (round_now scene world)) (wide (most_layers version) end))
-        (sym (written_same world.run)) decided))
+        let decided = decided_wide (is_written (written_in scene state.run)) (final_values scene state.run) expected (most_layers version) (round_now scene state) end round_most d
+        (have_room scene state expected end d roomy said) in
+        subst (λ (r : Round FrameOf). Decided (is_written (written_in other state.run)) (final_values other state.run) expected r (wide (most_layers version) end)) (sym round_wide)
+        (subst (λ (final : Seen). Decided (is_written (written_in other state.run)) final expected (wide (most_layers version) (round_now scene state)) (wide (most_layers version) end)) (sym (final_same state.run))
+        (subst (λ (wrote : List written.FrameNumber). Decided (is_written wrote) (final_values scene state.run) expected (wide (most_layers version) (round_now scene state)) (wide (most_layers version) end))
+        (sym (written_same state.run)) decided))
 
   plan_same : plan_of other ≡ plan_of scene
   unfolding plan_of
@@ -200,56 +200,56 @@ module _ (scene : SceneValue) (version : ℕ) (same : rising_actors (record scen
   unfolding rising_queues
   queues_same = refl
 
-  report_same : (world : World) (end : Round FrameOf) → report_of other world (wide (most_layers version) end) ≡ report_of scene world end
-  report_same world end = λ i. record {
-    number = world.vsyncs + 1;
-    expected = (world.vsyncs + 1) * scene.period;
-    timelines = map (value_shown (final_same world.run i)) (timelines_same i);
+  report_same : (state : RunState) (end : Round FrameOf) → report_of other state (wide (most_layers version) end) ≡ report_of scene state end
+  report_same state end = λ i. record {
+    number = state.vsyncs + 1;
+    expected = (state.vsyncs + 1) * scene.period;
+    timelines = map (value_shown (final_same state.run i)) (timelines_same i);
     commits = map commit_shown end.stage.commits;
     shown = if list_any is_done (map commit_shown end.stage.commits) then shown_due (picture_at scene.pictures) (plan_same i) end.stage.tree.layers else [];
   }
 
-  vsync_same : (world : World) (end : Round FrameOf) → after_vsync other world (wide (most_layers version) end) ≡ after_vsync scene world end
-  vsync_same world end =
-      ap (told_so other) (report_same world end) ∙ ap (λ (r : Run). record (after_vsync scene world end) { world = record (after_vsync scene world end).world { run = r } })
-      (calls_same 0 (world.vsyncs + 1) world.run (map release_asked (released_by (report_of scene world end) end.stage.gone)))
+  vsync_same : (state : RunState) (end : Round FrameOf) → after_vsync other state (wide (most_layers version) end) ≡ after_vsync scene state end
+  vsync_same state end =
+      ap (told_so other) (report_same state end) ∙ ap (λ (r : Run). record (after_vsync scene state end) { state = record (after_vsync scene state end).state { run = r } })
+      (calls_same 0 (state.vsyncs + 1) state.run (map release_asked (released_by (report_of scene state end) end.stage.gone)))
     where
-      told_so : SceneValue → VsyncReport → Turn
+      told_so : SceneValue → VsyncRecords → Transition
       told_so s report = record {
         events = map event.Vsync (reports_if report report.commits);
-        world = record world {
-          run = with_calls s 0 (world.vsyncs + 1) world.run (map release_asked (released_by report end.stage.gone));
-          reports = world.reports ++ reports_if report report.commits;
-          vsyncs = world.vsyncs + 1;
+        state = record state {
+          run = with_calls s 0 (state.vsyncs + 1) state.run (map release_asked (released_by report end.stage.gone));
+          reports = state.reports ++ reports_if report report.commits;
+          vsyncs = state.vsyncs + 1;
         };
       }
 
-  -- the commits of a turn had room
+  -- the commits of a transition had room
   abbrev EventsSayRoom : List Event → Type 0
   EventsSayRoom events = All SaysRoom (commits_in (vsyncs_in events))
 
-  vsync_says : (report : VsyncReport) (commits : List Commit) → report.commits ≡ commits → EventsSayRoom (map event.Vsync (reports_if report commits)) → All SaysRoom commits
+  vsync_says : (report : VsyncRecords) (commits : List CommitRecord) → report.commits ≡ commits → EventsSayRoom (map event.Vsync (reports_if report commits)) → All SaysRoom commits
   unfolding commits_in vsyncs_in
   vsync_says report [] none said = All-nil SaysRoom
   vsync_says report (commit ∷ commits) some said = subst (All SaysRoom) (append-nil report.commits ∙ some) said
 
-  turn_same : (pick : ℕ) (world : World) (turn : Turn) → IsRoomyWorld scene world → TakesTurn scene pick world turn → EventsSayRoom turn.events
-      → TakesTurn other pick world turn × IsRoomyWorld scene turn.world
-  turn_same zero world turn roomy takes said =
-      let report = report_of scene world takes.end in
-      let room = vsync_says report report.commits refl (subst (λ (t : Turn). EventsSayRoom t.events) takes.is said) in (
+  transition_same : (pick : ℕ) (state : RunState) (transition : Transition) → IsRoomyState scene state → TakesTransition scene pick state transition → EventsSayRoom transition.events
+      → TakesTransition other pick state transition × IsRoomyState scene transition.state
+  transition_same zero state transition roomy takes said =
+      let report = report_of scene state takes.end in
+      let room = vsync_says report report.commits refl (subst (λ (t : Transition). EventsSayRoom t.events) takes.is said) in (
         record {
           end = wide (most_layers version) takes.end;
-          decides = decides_same world roomy ((world.vsyncs + 1) * scene.period) takes.end takes.decides room;
-          is = takes.is ∙ sym (vsync_same world takes.end);
+          decides = decides_same state roomy ((state.vsyncs + 1) * scene.period) takes.end takes.decides room;
+          is = takes.is ∙ sym (vsync_same state takes.end);
         },
-        subst (λ (t : Turn). IsRoomyWorld scene t.world) (sym takes.is) (vsync_roomy scene world ((world.vsyncs + 1) * scene.period) takes.end takes.decides roomy room),
+        subst (λ (t : Transition). IsRoomyState scene t.state) (sym takes.is) (vsync_roomy scene state ((state.vsyncs + 1) * scene.period) takes.end takes.decides roomy room),
       )
-  turn_same (suc n) world turn roomy takes said =
-      (takes ∙ sym (actor_same (suc n) world), subst (λ (t : Turn). IsRoomyWorld scene t.world) (sym takes) (actor_roomy scene (suc n) world roomy))
+  transition_same (suc n) state transition roomy takes said =
+      (takes ∙ sym (actor_same (suc n) state), subst (λ (t : Transition). IsRoomyState scene t.state) (sym takes) (actor_roomy scene (suc n) state roomy))
 
   round_same : (playing : Playing) → with_round other playing ≡ with_round scene playing
-  round_same playing = ap (λ (scripts : List ActorScript). record playing { left = map actor_number scripts ++ 0 ∷ []; before = Some playing.world }) same
+  round_same playing = ap (λ (scripts : List ActorScript). record playing { left = map actor_number scripts ++ 0 ∷ []; before = Some playing.state }) same
 
   says_before : (events more : List Event) → EventsSayRoom (events ++ more) → EventsSayRoom events × EventsSayRoom more
   unfolding commits_in vsyncs_in
@@ -257,24 +257,24 @@ module _ (scene : SceneValue) (version : ℕ) (same : rising_actors (record scen
       let split = ap (flat_map commits_of_vsync) (flat_map-append vsync_in events more) ∙ flat_map-append commits_of_vsync (vsyncs_in events) (vsyncs_in more) in
       parted (commits_in (vsyncs_in events)) (commits_in (vsyncs_in more)) (subst (All SaysRoom) split said)
     where
-      parted : (xs ys : List Commit) → All SaysRoom (xs ++ ys) → All SaysRoom xs × All SaysRoom ys
+      parted : (xs ys : List CommitRecord) → All SaysRoom (xs ++ ys) → All SaysRoom xs × All SaysRoom ys
       parted [] ys all = (All-nil SaysRoom, all)
       parted (x ∷ xs) ys all =
           let rest = parted xs ys (All-tail SaysRoom x (xs ++ ys) all) in
           (All-cons SaysRoom x xs (All-head SaysRoom x (xs ++ ys) all) rest.0, rest.1)
 
-  goes_same : (playing : Playing) (left : List ℕ) (before : Option World) (next : Playing) → IsRoomyWorld scene playing.world → GoesOnWith scene playing left before next → EventsSayRoom next.events
-      → GoesOnWith other playing left before next × IsRoomyWorld scene next.world
+  goes_same : (playing : Playing) (left : List ℕ) (before : Option RunState) (next : Playing) → IsRoomyState scene playing.state → GoesOnWith scene playing left before next → EventsSayRoom next.events
+      → GoesOnWith other playing left before next × IsRoomyState scene next.state
   goes_same playing (pick ∷ left) before next roomy on said =
-      let turn = turn_same pick playing.world on.turn roomy on.takes (says_before playing.events on.turn.events (subst (λ (p : Playing). EventsSayRoom p.events) on.is said)).1 in
-      (record { turn = on.turn; takes = turn.0; is = on.is }, subst (λ (p : Playing). IsRoomyWorld scene p.world) (sym on.is) turn.1)
-  goes_same playing [] None next roomy on said = (on ∙ sym (round_same playing), subst (λ (p : Playing). IsRoomyWorld scene p.world) (sym on) roomy)
+      let transition = transition_same pick playing.state on.transition roomy on.takes (says_before playing.events on.transition.events (subst (λ (p : Playing). EventsSayRoom p.events) on.is said)).1 in
+      (record { transition = on.transition; takes = transition.0; is = on.is }, subst (λ (p : Playing). IsRoomyState scene p.state) (sym on.is) transition.1)
+  goes_same playing [] None next roomy on said = (on ∙ sym (round_same playing), subst (λ (p : Playing). IsRoomyState scene p.state) (sym on) roomy)
   goes_same playing [] (Some before) next roomy on said =
-      ((quiet_same playing.world roomy before ∙ on.0, on.1 ∙ sym (round_same playing)), subst (λ (p : Playing). IsRoomyWorld scene p.world) (sym on.1) roomy)
+      ((quiet_same playing.state roomy before ∙ on.0, on.1 ∙ sym (round_same playing)), subst (λ (p : Playing). IsRoomyState scene p.state) (sym on.1) roomy)
 
   -- what was shown stays
-  said_before : (playing next : Playing) (left : List ℕ) (before : Option World) → GoesOnWith scene playing left before next → EventsSayRoom next.events → EventsSayRoom playing.events
-  said_before playing next (pick ∷ left) before on said = (says_before playing.events on.turn.events (subst (λ (p : Playing). EventsSayRoom p.events) on.is said)).0
+  said_before : (playing next : Playing) (left : List ℕ) (before : Option RunState) → GoesOnWith scene playing left before next → EventsSayRoom next.events → EventsSayRoom playing.events
+  said_before playing next (pick ∷ left) before on said = (says_before playing.events on.transition.events (subst (λ (p : Playing). EventsSayRoom p.events) on.is said)).0
   said_before playing next [] None on said = subst (λ (p : Playing). EventsSayRoom p.events) on said
   said_before playing next [] (Some before) on said = subst (λ (p : Playing). EventsSayRoom p.events) on.1 said
 
@@ -282,15 +282,15 @@ module _ (scene : SceneValue) (version : ℕ) (same : rising_actors (record scen
   said_first playing _ stays said = said
   said_first playing end (goes {next = n} on later) said = said_before playing n playing.left playing.before on (said_first n end later said)
 
-  comes_same : (playing end : Playing) → IsRoomyWorld scene playing.world → Comes scene playing end → EventsSayRoom end.events → Comes other playing end × IsRoomyWorld scene end.world
+  comes_same : (playing end : Playing) → IsRoomyState scene playing.state → Comes scene playing end → EventsSayRoom end.events → Comes other playing end × IsRoomyState scene end.state
   comes_same playing _ roomy stays said = (stays, roomy)
   comes_same playing end roomy (goes {next = n} on later) said =
       let one = goes_same playing playing.left playing.before n roomy on (said_first n end later said) in
       let rest = comes_same n end one.1 later said in
       (goes one.0 rest.0, rest.1)
 
-  play_same : (events : List Event) (world : World) → IsPlay scene events world → EventsSayRoom events → IsPlay other events world × IsRoomyWorld scene world
-  play_same events world play said =
+  play_same : (events : List Event) (state : RunState) → IsPlay scene events state → EventsSayRoom events → IsPlay other events state × IsRoomyState scene state
+  play_same events state play said =
       let comes = comes_same (first_playing scene) play.playing (begins_roomy scene) play.begun (subst EventsSayRoom (sym play.shows) said) in (
         record {
           playing = play.playing;
@@ -299,21 +299,21 @@ module _ (scene : SceneValue) (version : ℕ) (same : rising_actors (record scen
             none_left = play.over.none_left;
             before = play.over.before;
             round = play.over.round;
-            quiet = quiet_same play.playing.world comes.1 play.over.before ∙ play.over.quiet;
+            quiet = quiet_same play.playing.state comes.1 play.over.before ∙ play.over.quiet;
           };
           shows = play.shows;
           ends = play.ends;
         },
-        subst (IsRoomyWorld scene) play.ends comes.1,
+        subst (IsRoomyState scene) play.ends comes.1,
       )
 
-  shows_same : (events : List Event) (world : World) → IsRoomyWorld scene world → shows_of other events world ≡ shows_of scene events world
-  shows_same events world roomy = λ i. record {
+  shows_same : (events : List Event) (state : RunState) → IsRoomyState scene state → shows_of other events state ≡ shows_of scene events state
+  shows_same events state roomy = λ i. record {
     events = events;
-    arrived = map entry_of world.arrivals;
-    histories = map (history_shown world.run) (queues_same i);
-    held = map held_shown (held_same world roomy (world.vsyncs * scene.period) i);
-    stuck = flat_map (stuck_if world.run) (same i);
+    arrived = map entry_of state.arrivals;
+    histories = map (history_shown state.run) (queues_same i);
+    held = map held_shown (held_same state roomy (state.vsyncs * scene.period) i);
+    stuck = flat_map (stuck_if state.run) (same i);
   }
 
 -- the commits among records
@@ -323,12 +323,12 @@ parted_room (x ∷ xs) ys all =
     let rest = parted_room xs ys (All-tail HadRoom x (xs ++ ys) all) in
     (All-cons HadRoom x xs (All-head HadRoom x (xs ++ ys) all) rest.0, rest.1)
 
-commits_said : (commits : List Commit) → All HadRoom (map rec.Comm commits) → All SaysRoom commits
+commits_said : (commits : List CommitRecord) → All HadRoom (map rec.Comm commits) → All SaysRoom commits
 commits_said [] all = All-nil SaysRoom
 commits_said (commit ∷ commits) all =
     All-cons SaysRoom commit commits (All-head HadRoom (rec.Comm commit) (map rec.Comm commits) all) (commits_said commits (All-tail HadRoom (rec.Comm commit) (map rec.Comm commits) all))
 
-joined_said : (xs ys : List Commit) → All SaysRoom xs → All SaysRoom ys → All SaysRoom (xs ++ ys)
+joined_said : (xs ys : List CommitRecord) → All SaysRoom xs → All SaysRoom ys → All SaysRoom (xs ++ ys)
 joined_said [] ys one other = other
 joined_said (x ∷ xs) ys one other = All-cons SaysRoom x (xs ++ ys) (All-head SaysRoom x xs one) (joined_said xs ys (All-tail SaysRoom x xs one) other)
 
@@ -360,15 +360,15 @@ pub played_alike : ArePlayedAlike
 played_alike scene records limits first room play =
     let actors = actors_alike scene limits first in
     let more = layers_alike scene first in
-    let shows = shows_of scene play.events play.world in
+    let shows = shows_of scene play.events play.state in
     let last = closing shows.arrived shows.histories shows.held shows.stuck in
     let rest : records ≡ events_records play.events ++ last = ap (drop 1) play.are in
     let said = events_said play.events (parted_room (events_records play.events) last (subst (All HadRoom) rest room)).0 in
-    let alike = play_same scene 2 actors more play.events play.world play.is_play said in
+    let alike = play_same scene 2 actors more play.events play.state play.is_play said in
     record {
       events = play.events;
-      world = play.world;
+      state = play.state;
       is_play = alike.0;
       are = ap (λ (rs : List Record). opening (in_version_2 scene) ∷ rs) rest
-          ∙ ap (records_of (in_version_2 scene)) (sym (shows_same scene 2 actors more play.events play.world alike.1));
+          ∙ ap (records_of (in_version_2 scene)) (sym (shows_same scene 2 actors more play.events play.state alike.1));
     }

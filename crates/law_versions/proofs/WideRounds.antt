@@ -12,8 +12,8 @@ use Rattle.sf_txn.specs.Transactions.{without_first}
 use Rattle.sf_commit.proofs.DecideLemmas.{all_left}
 use Rattle.sf_commit.specs.Rounds.{Decided, Leads, Round, committed, facts_of, frames_in, layers_in, shown_if, stage_with}
 use Rattle.sf_actor.specs.Names.{FrameOf}
-use Rattle.sf_record.specs.declared.event.VsyncReport.{VsyncReport}
-use Rattle.sf_record.specs.declared.record.Commit.{Commit}
+use Rattle.sf_record.specs.declared.event.VsyncRecords.{VsyncRecords}
+use Rattle.sf_record.specs.declared.record.CommitRecord.{CommitRecord}
 use Rattle.law_versions.proofs.MoreRoom.{HasRoom, after_more, in_more, with_most}
 use Rattle.law_played.proofs.OrderLemmas.{found_has}
 use Rattle.law_played.proofs.PathLemmas.{cause_of, ready_next, told_along, told_at}
@@ -71,7 +71,7 @@ record ComesWide (most : ℕ) (other one : Round FrameOf) : Type 0 where
   more : one.stage.tree.most ≤ most
 
 module _ (arrivals : List (Arrival FrameOf)) (most : ℕ) where
-  after_wide : (r : Round FrameOf) (commits : List Commit) → r.stage.tree.most ≤ most → All HadRoomAt (commits_from arrivals r commits)
+  after_wide : (r : Round FrameOf) (commits : List CommitRecord) → r.stage.tree.most ≤ most → All HadRoomAt (commits_from arrivals r commits)
       → ComesWide most (round_after arrivals (wide most r) commits) (round_after arrivals r commits)
   unfolding round_after commits_from
   after_wide r [] more room = record { is = refl; more = more }
@@ -82,7 +82,7 @@ module _ (arrivals : List (Arrival FrameOf)) (most : ℕ) where
       let rest = after_wide next later (committed_most most r arrived more) (All-tail HadRoomAt (record { round = r; arrived = arrived; commit = commit }) (commits_from arrivals next later) room) in
       record { is = ap (λ (x : Round FrameOf). round_after arrivals x later) (committed_wide most r arrived more here) ∙ rest.is; more = rest.more }
 
-  pub end_wide : (r : Round FrameOf) (vsyncs : List VsyncReport) → r.stage.tree.most ≤ most → All AllHadRoom (told_from arrivals r vsyncs)
+  pub end_wide : (r : Round FrameOf) (vsyncs : List VsyncRecords) → r.stage.tree.most ≤ most → All AllHadRoom (told_from arrivals r vsyncs)
       → (round_at_end (wide most r) (told_from arrivals (wide most r) vsyncs) ≡ wide most (round_at_end r (told_from arrivals r vsyncs)))
       × ((round_at_end r (told_from arrivals r vsyncs)).stage.tree.most ≤ most)
   unfolding told_from round_at_end
@@ -104,12 +104,12 @@ room_of (Ok tree) room = tt
 room_of (Err rejection) room = room
 
 -- as their records say
-pub room_told : (r : Round FrameOf) (taken : List (Arrival FrameOf)) → All (λ (commit : Commit). commit.result ≢ 5) (map commit_shown (told_along r taken)) → HaveRoom r taken
+pub room_told : (r : Round FrameOf) (taken : List (Arrival FrameOf)) → All (λ (commit : CommitRecord). commit.result ≢ 5) (map commit_shown (told_along r taken)) → HaveRoom r taken
 room_told r [] told = tt
 room_told r (arrived ∷ later) told =
     let others = map commit_shown (told_along (committed r arrived) later) in (
-      room_of (after r.stage.tree arrived.txn.ops) (All-head (λ (commit : Commit). commit.result ≢ 5) (commit_shown (told_at r arrived)) others told),
-      room_told (committed r arrived) later (All-tail (λ (commit : Commit). commit.result ≢ 5) (commit_shown (told_at r arrived)) others told),
+      room_of (after r.stage.tree arrived.txn.ops) (All-head (λ (commit : CommitRecord). commit.result ≢ 5) (commit_shown (told_at r arrived)) others told),
+      room_told (committed r arrived) later (All-tail (λ (commit : CommitRecord). commit.result ≢ 5) (commit_shown (told_at r arrived)) others told),
     )
 
 module _ (drawn : FrameOf → Bool) (seen : Seen) (expected : ℕ) (most : ℕ) where

@@ -28,7 +28,7 @@ use Rattle.sf_actor.specs.Asking.{Asked, attach_of, attach_read_of, call_of}
 use Rattle.sf_actor.specs.Desks.{DeskHome, DeskView, MadeCall, known_of, mark_among}
 use Rattle.sf_actor.specs.Known.{frame_of, share_of}
 use Rattle.sf_actor.specs.Names.{Frame, Holdings, Lent, moved}
-use Rattle.sf_actor.specs.Parts.{token_of}
+use Rattle.sf_actor.specs.Holdings.{token_of}
 use Rattle.sf_actor.specs.Rights.{EndsIn, MadeWith, given_turn, turn_by}
 use Rattle.sf_actor.specs.Scripts.{queue_of}
 use Rattle.sf_actor.specs.Steps.{holdings_next, is_refusal}

@@ -16,7 +16,7 @@ use Rattle.sf_actor.specs.declared.holding.Holding.{Holding}
 use Rattle.sf_actor.specs.Asking.{Asked}
 use Rattle.sf_actor.specs.Known.{Call, Share}
 use Rattle.sf_actor.specs.Names.{Holdings, name_in}
-use Rattle.sf_actor.specs.Parts.{token_of, turn_held}
+use Rattle.sf_actor.specs.Holdings.{token_of, turn_held}
 use Rattle.sf_actor.specs.Points.{shown_next}
 use Rattle.sf_actor.specs.Rights.{IsFrom, MadeWith, WasGivenAt, brought_turn}
 use Rattle.sf_actor.specs.Steps.{holdings_next, used_by}

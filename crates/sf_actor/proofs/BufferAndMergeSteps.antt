@@ -23,11 +23,11 @@ use Rattle.sf_actor.specs.Asking.{buffer_of, merged_away, overtaken_by, replaced
 use Rattle.sf_actor.specs.Desks.{DeskHome, DeskView, known_of}
 use Rattle.sf_actor.specs.Known.{Call, Share, frame_of, plain_txn, share_of, told_by}
 use Rattle.sf_actor.specs.Names.{Frame, FrameOf, Holdings, name_in, transaction_in, with_name, with_transaction}
-use Rattle.sf_actor.specs.Parts.{plain_of, token_of}
+use Rattle.sf_actor.specs.Holdings.{plain_of, token_of}
 use Rattle.sf_actor.specs.Rights.{BringsGiven, EndsIn, HoldsAcquired, MadeWith, QueuesPicture, made_with}
 use Rattle.sf_actor.specs.Scripts.{layer_of}
 use Rattle.sf_actor.specs.Steps.{holdings_next}
-use Rattle.sf_actor.specs.Tales.{IsMade, made_on}
+use Rattle.sf_actor.specs.ScriptTraces.{IsMade, made_on}
 use Rattle.sf_actor.specs.Tests.{refusal_of}
 use Rattle.sf_actor.specs.Traces.{AnswersTests, MadeStep, made_at, release_at}
 use Rattle.sf_actor.specs.Tries.{ActorKept, ActorOf, contents_in, held_in, next_step, past_of}

@@ -22,7 +22,7 @@ use Rattle.sf_actor.specs.Draws.{entered_at}
 use Rattle.sf_actor.specs.Known.{AreAmong, Call, CountsRise, Rise, Share, ShareGoesOn, arrivals_told, call_after, is_sent_by, own_calls, share_of, told_by}
 use Rattle.sf_actor.specs.Rights.{BringsGiven, EndsIn, IsFrom, MadeWith, QueuesPicture, brought_turn}
 use Rattle.sf_actor.specs.Steps.{sent_by, used_by, was_done}
-use Rattle.sf_actor.specs.Tales.{IsMade, made_on}
+use Rattle.sf_actor.specs.ScriptTraces.{IsMade, made_on}
 use Rattle.sf_actor.specs.Traces.{DoneAt, IsAnswered, MadeStep, made_at, overtaken, own_call, release_at, sent_with, source_in}
 use Rattle.sf_actor.specs.Written.{FrameNumber, paid_at, signal_of}
 use Rattle.sf_actor.proofs.TraceGrowth.{Adds}

@@ -30,7 +30,7 @@ use Rattle.sf_actor.specs.Asking.{Asked, call_of, cancel_of}
 use Rattle.sf_actor.specs.Desks.{DeskHome, DeskView, MadeCall, known_of, mark_among}
 use Rattle.sf_actor.specs.Known.{Share, ShareGoesOn, share_of}
 use Rattle.sf_actor.specs.Names.{Holdings, Lent, name_in, with_name}
-use Rattle.sf_actor.specs.Parts.{drawn_picture, token_of}
+use Rattle.sf_actor.specs.Holdings.{drawn_picture, token_of}
 use Rattle.sf_actor.specs.Points.{shown_next}
 use Rattle.sf_actor.specs.Rights.{EndsIn, MadeWith}
 use Rattle.sf_actor.specs.Scripts.{fence_of}

@@ -32,7 +32,7 @@ use Rattle.sf_actor.specs.Asking.{Asked, call_of, dequeue_of, overtaken_by}
 use Rattle.sf_actor.specs.Desks.{DeskHome, DeskView, MadeCall, known_of, mark_among}
 use Rattle.sf_actor.specs.Known.{Call, Share, share_of}
 use Rattle.sf_actor.specs.Names.{Holdings, Lent, with_name}
-use Rattle.sf_actor.specs.Parts.{PartsOf}
+use Rattle.sf_actor.specs.Holdings.{HoldingsOf}
 use Rattle.sf_actor.specs.Points.{detached_fence, shown_next, waited_fence}
 use Rattle.sf_actor.specs.Rights.{EndsIn, IsFrom, MadeWith, given_turn, made_with, turn_by}
 use Rattle.sf_actor.specs.Scripts.{queue_of}
@@ -138,7 +138,7 @@ module _ {B : Type 0} where
       unwaited_by (mark_among home.marks queue) made.earlier by asked.1 reply legal.0
 
   -- the permits that are left where the call made a buffer
-  permits_used : (pictures : ℕ → Picture) (actor : ActorOf B) (done : Done) (parts : PartsOf B) (rest : List ℕ) (permit : PermitView) (asked : Asked) (made : Call B) (old new : Share B) → next_step actor ≡ Some done.step → is_dequeue done.step ≡ true → ActorKept pictures actor old → actor.parts.stock ≡ permit.buffer ∷ rest → parts.stock ≡ rest → ((queue : ℕ) → new.calls queue ≡ old.calls queue ++ only asked made queue) → ((number : ℕ) → MadeWith number made → permit.buffer ≡ number) → ArePermits (stepped actor done parts) new
+  permits_used : (pictures : ℕ → Picture) (actor : ActorOf B) (done : Done) (parts : HoldingsOf B) (rest : List ℕ) (permit : PermitView) (asked : Asked) (made : Call B) (old new : Share B) → next_step actor ≡ Some done.step → is_dequeue done.step ≡ true → ActorKept pictures actor old → actor.parts.stock ≡ permit.buffer ∷ rest → parts.stock ≡ rest → ((queue : ℕ) → new.calls queue ≡ old.calls queue ++ only asked made queue) → ((number : ℕ) → MadeWith number made → permit.buffer ≡ number) → ArePermits (stepped actor done parts) new
   permits_used pictures actor done parts rest permit asked made old new is_next dequeues is before after calls makes = record {
     own = λ number there. is.permits.own number (was number (subst (λ (stock : List ℕ). Contains stock number) after there));
     once = λ number.
@@ -171,7 +171,7 @@ module _ {B : Type 0} where
       longer e = omega (arith, e)
 
   -- the permits that are left once a buffer is lent
-  permits_left : (pictures : ℕ → Picture) (actor : ActorOf B) (done : Done) (parts : PartsOf B) (rest : List ℕ) (permit : PermitView) (spare : Option PermitView) (asked : Asked) (made : Call B) (old new : Share B) → next_step actor ≡ Some done.step → is_dequeue done.step ≡ true → ActorKept pictures actor old → actor.parts.stock ≡ permit.buffer ∷ rest → parts.stock ≡ stock_after rest permit spare → ((queue : ℕ) → new.calls queue ≡ old.calls queue ++ only asked made queue) → ((number : ℕ) → MadeWith number made → made_with (Some permit) spare number ≡ true) → ArePermits (stepped actor done parts) new
+  permits_left : (pictures : ℕ → Picture) (actor : ActorOf B) (done : Done) (parts : HoldingsOf B) (rest : List ℕ) (permit : PermitView) (spare : Option PermitView) (asked : Asked) (made : Call B) (old new : Share B) → next_step actor ≡ Some done.step → is_dequeue done.step ≡ true → ActorKept pictures actor old → actor.parts.stock ≡ permit.buffer ∷ rest → parts.stock ≡ stock_after rest permit spare → ((queue : ℕ) → new.calls queue ≡ old.calls queue ++ only asked made queue) → ((number : ℕ) → MadeWith number made → made_with (Some permit) spare number ≡ true) → ArePermits (stepped actor done parts) new
   permits_left pictures actor done parts rest permit None asked made old new is_next dequeues is before after calls makes =
       permits_used pictures actor done parts rest permit asked made old new is_next dequeues is before after calls (λ number it. made_is permit None number (makes number it))
   permits_left pictures actor done parts rest permit (Some back) asked made old new is_next dequeues is before after calls makes =

@@ -29,7 +29,7 @@ use Rattle.sf_actor.specs.Asking.{Asked, call_of, detach_of, detach_read_of}
 use Rattle.sf_actor.specs.Desks.{DeskHome, DeskView, MadeCall, known_of, mark_among}
 use Rattle.sf_actor.specs.Known.{Share, ShareGoesOn, frame_of, share_of}
 use Rattle.sf_actor.specs.Names.{Apart, Frame, Holdings, Lent, moved, name_in}
-use Rattle.sf_actor.specs.Parts.{drawn_picture, token_of}
+use Rattle.sf_actor.specs.Holdings.{drawn_picture, token_of}
 use Rattle.sf_actor.specs.Points.{detached_fence, frame_fence, or_none, requested_fence, shown_next, waited_fence}
 use Rattle.sf_actor.specs.Rights.{EndsIn, MadeWith, given_turn, turn_by}
 use Rattle.sf_actor.specs.Steps.{holdings_next, is_refusal, sent_by}

@@ -33,7 +33,7 @@ use Rattle.sf_actor.specs.Asking.{Asked}
 use Rattle.sf_actor.specs.Desks.{DeskHome, DeskView, MadeCall, known_of, mark_among}
 use Rattle.sf_actor.specs.Known.{share_of}
 use Rattle.sf_actor.specs.Names.{Holdings, Token, dropped_of, without_leases}
-use Rattle.sf_actor.specs.Parts.{PartsOf, plain_of, token_of}
+use Rattle.sf_actor.specs.Holdings.{HoldingsOf, plain_of, token_of}
 use Rattle.sf_actor.specs.Rights.{EndsIn, MadeWith}
 use Rattle.sf_actor.specs.Scripts.{queue_of}
 use Rattle.sf_actor.specs.Steps.{holdings_next}
@@ -77,7 +77,7 @@ module _ {B : Type 0} where
   let_go_of queue (Some held) = unless_lent queue held
 
   -- the leases of a queue are dropped
-  abbrev pub without_lent : PartsOf B → ℕ → PartsOf B
+  abbrev pub without_lent : HoldingsOf B → ℕ → HoldingsOf B
   without_lent parts queue = record parts { names = map (let_go_of queue) parts.names }
 
   told_without : (queue : ℕ) (held : Option (Holding B)) → option_map token_of (let_go_of queue held) ≡ dropped_of queue (option_map token_of held)

@@ -29,7 +29,7 @@ use Rattle.sf_actor.specs.Desks.{ChangesTurns, DeskHome, DeskView, known_of}
 use Rattle.sf_actor.specs.Draws.{EntersCounted, IsInOrder, entered_at, entered_in}
 use Rattle.sf_actor.specs.Known.{Call, GoesOn, Share, ShareGoesOn, share_of}
 use Rattle.sf_actor.specs.Names.{Holdings, Lent, Owing, OwedFrame, Token, name_in, with_name}
-use Rattle.sf_actor.specs.Parts.{ShowsPictures, drawn_picture, token_of, turn_held}
+use Rattle.sf_actor.specs.Holdings.{ShowsPictures, drawn_picture, token_of, turn_held}
 use Rattle.sf_actor.specs.Points.{or_none, undrawn_fence, waited_fence}
 use Rattle.sf_actor.specs.Rights.{IsOfCall, Turn, WasGivenAt, WasPaid, turn_by}
 use Rattle.sf_actor.specs.Steps.{holdings_next}

@@ -22,7 +22,7 @@ use Rattle.sf_actor.specs.declared.done.Done.{Done}
 use Rattle.sf_actor.specs.declared.holding.Holding.{Holding}
 use Rattle.sf_actor.specs.Known.{Call, Rise, Share}
 use Rattle.sf_actor.specs.Names.{Holdings, Token, moved, with_name}
-use Rattle.sf_actor.specs.Parts.{PartsOf, ShowsPictures, plain_of, token_of, turn_held}
+use Rattle.sf_actor.specs.Holdings.{HoldingsOf, ShowsPictures, plain_of, token_of, turn_held}
 use Rattle.sf_actor.specs.Points.{shown_next}
 use Rattle.sf_actor.specs.Rights.{HoldsAcquired, IsOfCall, Turn, WasGivenAt, given_turn}
 use Rattle.sf_actor.specs.Steps.{filled_by, holdings_next, is_refusal, was_done}
@@ -63,7 +63,7 @@ filled_other since place s told name other done fills apart = rw (done, fills) (
 
 module _ {B : Type 0} where
   -- what a step with a call came to: the queue replied so, and the actor keeps what it keeps with these parts
-  pub record KeepsWith (pictures : ℕ → Picture) (actor : ActorOf B) (s : Step) (queue : QueueId) (asked : QCall B) (reply : QReply B) (parts : PartsOf B) (share : Share B) : Type 0 where
+  pub record KeepsWith (pictures : ℕ → Picture) (actor : ActorOf B) (s : Step) (queue : QueueId) (asked : QCall B) (reply : QReply B) (parts : HoldingsOf B) (share : Share B) : Type 0 where
     pub told : PlainReply
     pub replies : IsReply queue asked told reply
     pub keeps : ActorKept pictures (stepped actor (record { step = s; answered = answered.Called told }) parts) share
@@ -86,7 +86,7 @@ module _ {B : Type 0} where
   IsNew pictures actor done new name now = WasGivenAt new.calls (get_or (since_next (past_of actor).since (length actor.trace + 1) done) name 0) (Some (turn_held now)) × ShowsPictures pictures now × IsOfCall new.calls now
 
   -- a step after which each place holds what it held, or what the step gave
-  pub record PartsChange (pictures : ℕ → Picture) (actor : ActorOf B) (done : Done) (parts : PartsOf B) (old new : Share B) (added : ℕ → List (Call B)) : Type 0 where
+  pub record PartsChange (pictures : ℕ → Picture) (actor : ActorOf B) (done : Done) (parts : HoldingsOf B) (old new : Share B) (added : ℕ → List (Call B)) : Type 0 where
     pub calls : (queue : ℕ) → new.calls queue ≡ old.calls queue ++ added queue
     pub has : plain_of parts ≡ holdings_next (past_of actor).holdings done
     pub held : (name : ℕ) (now : Holding B) → held_in parts name ≡ Some now → IsStill actor done name now ⊎ IsNew pictures actor done new name now
@@ -101,7 +101,7 @@ module _ {B : Type 0} where
       (λ (buffer : Buffer ReadLeaseOf). taken_still old.calls new.calls added calls buffer.lease)
       buffers all
 
-  pub changes_move : (pictures : ℕ → Picture) (actor : ActorOf B) (done : Done) (parts : PartsOf B) (old new : Share B) (added : ℕ → List (Call B)) → ActorKept pictures actor old → PartsChange pictures actor done parts old new added → PartsMove pictures actor done parts new
+  pub changes_move : (pictures : ℕ → Picture) (actor : ActorOf B) (done : Done) (parts : HoldingsOf B) (old new : Share B) (added : ℕ → List (Call B)) → ActorKept pictures actor old → PartsChange pictures actor done parts old new added → PartsMove pictures actor done parts new
   changes_move pictures actor done parts old new added is change =
       let since = since_next (past_of actor).since (length actor.trace + 1) done in
       record {
@@ -129,11 +129,11 @@ module _ {B : Type 0} where
       }
 
   -- the parts with a token moved to another name, as something else
-  abbrev pub moved_held : PartsOf B → ℕ → ℕ → Holding B → PartsOf B
+  abbrev pub moved_held : HoldingsOf B → ℕ → ℕ → Holding B → HoldingsOf B
   moved_held parts from to now = record parts { names = set (set parts.names from None) to (Some now) }
 
   -- a name that another token moved to holds it, the one that it came from nothing, and the others what they held
-  moved_case : {P : Type 0} (parts : PartsOf B) (from to : ℕ) (now : Holding B) (other : ℕ) (held : Holding B) → from < length parts.names → to < length parts.names → held_in (moved_held parts from to now) other ≡ Some held → (other ≡ to → now ≡ held → P) → (other ≢ to → held_in parts other ≡ Some held → P) → P
+  moved_case : {P : Type 0} (parts : HoldingsOf B) (from to : ℕ) (now : Holding B) (other : ℕ) (held : Holding B) → from < length parts.names → to < length parts.names → held_in (moved_held parts from to now) other ≡ Some held → (other ≡ to → now ≡ held → P) → (other ≢ to → held_in parts other ≡ Some held → P) → P
   moved_case parts from to now other held low_from low_to there here elsewhere = elim (cases_Bool (other == to)) [
     | inl met ↦
         let same = eqb-true other to met in

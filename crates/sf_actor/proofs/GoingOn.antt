@@ -24,9 +24,9 @@ use Rattle.sf_actor.specs.Keeping.{TraceKept}
 use Rattle.sf_actor.specs.Known.{AreAmong, Call, GoesOn, Known, Rise, Share, ShareGoesOn, arrivals_told, is_sent_by, own_calls, plain_arrival, share_of, told_by}
 use Rattle.sf_actor.specs.Points.{detached_fence, waited_fence}
 use Rattle.sf_actor.specs.Rights.{BringsGiven, EndsIn, HoldsAcquired, IsOfCall, SendsAcquired, Turn, WasGivenAt, WasPaid, issued_turn}
-use Rattle.sf_actor.specs.Parts.{turn_held}
+use Rattle.sf_actor.specs.Holdings.{turn_held}
 use Rattle.sf_actor.specs.Steps.{sent_by}
-use Rattle.sf_actor.specs.Tales.{IsMade, made_on, sent_as}
+use Rattle.sf_actor.specs.ScriptTraces.{IsMade, made_on, sent_as}
 use Rattle.sf_actor.specs.Tests.{refusal_of}
 use Rattle.sf_actor.specs.Traces.{AnswersCall, AnswersTests, AreAnswered, DoneAt, IsAnswered, IsPassed, Past, PassesFence, made_by, places_of, sends_of}
 use Rattle.sf_actor.specs.Tries.{ActorKept, ActorOf, past_of}

@@ -13,7 +13,7 @@ use Rattle.sf_actor.specs.declared.done.Done.{Done}
 use Rattle.sf_actor.specs.declared.holding.Holding.{Holding}
 use Rattle.sf_actor.specs.Known.{Call, Share}
 use Rattle.sf_actor.specs.Names.{Holdings, Token, with_name}
-use Rattle.sf_actor.specs.Parts.{PartsOf, ShowsPictures, plain_of, token_of, turn_held}
+use Rattle.sf_actor.specs.Holdings.{HoldingsOf, ShowsPictures, plain_of, token_of, turn_held}
 use Rattle.sf_actor.specs.Points.{shown_next}
 use Rattle.sf_actor.specs.Rights.{HoldsAcquired, IsOfCall, WasGivenAt}
 use Rattle.sf_actor.specs.Steps.{holdings_next}
@@ -24,7 +24,7 @@ use Rattle.sf_actor.proofs.StepKeepsActor.{PartsMove, stepped}
 
 module _ {B : Type 0} where
   -- the parts with something else under a name, and with this stock
-  abbrev pub with_held : PartsOf B → ℕ → Option (Holding B) → List ℕ → PartsOf B
+  abbrev pub with_held : HoldingsOf B → ℕ → Option (Holding B) → List ℕ → HoldingsOf B
   with_held parts name held stock = record parts { names = set parts.names name held; stock = stock }
 
   -- a step after which a name holds something else, with the right that a call of the actor gave with it
@@ -40,7 +40,7 @@ module _ {B : Type 0} where
     pub permits : ArePermits (stepped actor done (with_held actor.parts name held stock)) new
 
   -- what a name holds then
-  pub held_case : {P : Type 0} (parts : PartsOf B) (name : ℕ) (held : Option (Holding B)) (stock : List ℕ) (other : ℕ) (now : Holding B) → name < length parts.names → held_in (with_held parts name held stock) other ≡ Some now → (other ≡ name → held ≡ Some now → P) → (other ≢ name → held_in parts other ≡ Some now → P) → P
+  pub held_case : {P : Type 0} (parts : HoldingsOf B) (name : ℕ) (held : Option (Holding B)) (stock : List ℕ) (other : ℕ) (now : Holding B) → name < length parts.names → held_in (with_held parts name held stock) other ≡ Some now → (other ≡ name → held ≡ Some now → P) → (other ≢ name → held_in parts other ≡ Some now → P) → P
   held_case parts name held stock other now low there here elsewhere = elim (cases_Bool (other == name)) [
     | inl met ↦
         let same = eqb-true other name met in

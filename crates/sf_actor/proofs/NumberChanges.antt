@@ -13,7 +13,7 @@ use Rattle.sf_token.specs.sf_txn.Transactions.{Contents}
 use Rattle.sf_actor.specs.declared.done.Done.{Done}
 use Rattle.sf_actor.specs.Known.{Call, Share, plain_txn}
 use Rattle.sf_actor.specs.Names.{FrameOf, Holdings, transaction_in, with_transaction}
-use Rattle.sf_actor.specs.Parts.{PartsOf, plain_of}
+use Rattle.sf_actor.specs.Holdings.{HoldingsOf, plain_of}
 use Rattle.sf_actor.specs.Points.{shown_next}
 use Rattle.sf_actor.specs.Rights.{HoldsAcquired}
 use Rattle.sf_actor.specs.Steps.{holdings_next}
@@ -24,7 +24,7 @@ use Rattle.sf_actor.proofs.StepKeepsActor.{PartsMove, stepped}
 
 module _ {B : Type 0} where
   -- the parts with something else under a transaction number
-  abbrev pub with_contents : PartsOf B → ℕ → Option (Contents ReadLeaseOf) → PartsOf B
+  abbrev pub with_contents : HoldingsOf B → ℕ → Option (Contents ReadLeaseOf) → HoldingsOf B
   with_contents parts number txn = record parts { transactions = set parts.transactions number txn }
 
   -- what a number holds, as the trace tells it
@@ -34,7 +34,7 @@ module _ {B : Type 0} where
       ∙ get_or-map (option_map plain_txn) actor.parts.transactions number None
 
   -- what a number holds then
-  pub contents_case : {P : Type 0} (parts : PartsOf B) (number : ℕ) (txn : Option (Contents ReadLeaseOf)) (other : ℕ) (now : Contents ReadLeaseOf) → number < length parts.transactions → contents_in (with_contents parts number txn) other ≡ Some now → (txn ≡ Some now → P) → (contents_in parts other ≡ Some now → P) → P
+  pub contents_case : {P : Type 0} (parts : HoldingsOf B) (number : ℕ) (txn : Option (Contents ReadLeaseOf)) (other : ℕ) (now : Contents ReadLeaseOf) → number < length parts.transactions → contents_in (with_contents parts number txn) other ≡ Some now → (txn ≡ Some now → P) → (contents_in parts other ≡ Some now → P) → P
   contents_case parts number txn other now low there here elsewhere = elim (cases_Bool (other == number)) [
     | inl met ↦
         let is = eqb-true other number met in

@@ -23,7 +23,7 @@ use Rattle.sf_actor.specs.Asking.{Asked, release_of}
 use Rattle.sf_actor.specs.Desks.{DeskHome, DeskView, MadeCall, known_of, mark_among}
 use Rattle.sf_actor.specs.Known.{AreAmong, Call, CountsRise, Rise, Share, frame_of, share_of, told_by}
 use Rattle.sf_actor.specs.Rights.{Acquires, BringsGiven, Takes, WasAcquired, WasTaken, turn_by}
-use Rattle.sf_actor.specs.Tales.{IsMade, made_on}
+use Rattle.sf_actor.specs.ScriptTraces.{IsMade, made_on}
 use Rattle.sf_actor.specs.Traces.{release_at}
 use Rattle.sf_actor.proofs.CallShare.{OneMore, answer_told, joined, made_call, one_more, only, only_one}
 

@@ -32,7 +32,7 @@ use Rattle.sf_actor.specs.Asking.{Asked, call_of, queueing_of}
 use Rattle.sf_actor.specs.Desks.{DeskHome, DeskView, MadeCall, known_of, mark_among}
 use Rattle.sf_actor.specs.Known.{Call, Share, ShareGoesOn, share_of}
 use Rattle.sf_actor.specs.Names.{Holdings, Lent, name_in, with_name}
-use Rattle.sf_actor.specs.Parts.{ShowsPictures, drawn_picture, token_of, turn_held}
+use Rattle.sf_actor.specs.Holdings.{ShowsPictures, drawn_picture, token_of, turn_held}
 use Rattle.sf_actor.specs.Rights.{EndsIn, IsOfCall, MadeWith, WasGivenAt, given_turn}
 use Rattle.sf_actor.specs.Scripts.{crop_of, fence_of}
 use Rattle.sf_actor.specs.Steps.{holdings_next, is_refusal}

@@ -28,7 +28,7 @@ use Rattle.sf_actor.specs.Asking.{Asked, call_of, releasing_of}
 use Rattle.sf_actor.specs.Desks.{DeskHome, DeskView, MadeCall, known_of, mark_among}
 use Rattle.sf_actor.specs.Known.{share_of}
 use Rattle.sf_actor.specs.Names.{Frame, Holdings, name_in, with_name}
-use Rattle.sf_actor.specs.Parts.{token_of}
+use Rattle.sf_actor.specs.Holdings.{token_of}
 use Rattle.sf_actor.specs.Points.{shown_next}
 use Rattle.sf_actor.specs.Rights.{EndsIn, MadeWith}
 use Rattle.sf_actor.specs.Scripts.{fence_of}

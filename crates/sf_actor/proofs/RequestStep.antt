@@ -26,7 +26,7 @@ use Rattle.sf_actor.specs.Asking.{Asked, call_of, request_of}
 use Rattle.sf_actor.specs.Desks.{DeskHome, DeskView, MadeCall, known_of, mark_among}
 use Rattle.sf_actor.specs.Known.{share_of}
 use Rattle.sf_actor.specs.Names.{Holdings, Lent, name_in, with_name}
-use Rattle.sf_actor.specs.Parts.{drawn_picture, token_of}
+use Rattle.sf_actor.specs.Holdings.{drawn_picture, token_of}
 use Rattle.sf_actor.specs.Rights.{EndsIn, MadeWith, given_turn, turn_by}
 use Rattle.sf_actor.specs.Steps.{holdings_next, is_refusal}
 use Rattle.sf_actor.specs.Tests.{refusal_of}

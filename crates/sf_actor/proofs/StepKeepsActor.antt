@@ -19,11 +19,11 @@ use Rattle.sf_actor.specs.declared.holding.Holding.{Holding}
 use Rattle.sf_actor.specs.Asking.{Asked, call_of}
 use Rattle.sf_actor.specs.Draws.{EntersCounted, IsInOrder, entered_at, entered_in}
 use Rattle.sf_actor.specs.Known.{AreAmong, Call, CountsRise, Rise, Share, plain_arrival}
-use Rattle.sf_actor.specs.Parts.{PartsOf, ShowsPictures, plain_of, turn_held}
+use Rattle.sf_actor.specs.Holdings.{HoldingsOf, ShowsPictures, plain_of, turn_held}
 use Rattle.sf_actor.specs.Points.{shown_next}
 use Rattle.sf_actor.specs.Rights.{BringsGiven, HoldsAcquired, IsOfCall, MadeWith, SendsAcquired, WasGivenAt, WasPaid}
 use Rattle.sf_actor.specs.Steps.{holdings_next, used_by}
-use Rattle.sf_actor.specs.Tales.{IsMade, made_on, sent_as}
+use Rattle.sf_actor.specs.ScriptTraces.{IsMade, made_on, sent_as}
 use Rattle.sf_actor.specs.Traces.{DoneAt, IsAnswered, MadeStep, Past, Source, made_at, overtaken, own_call, sent_at, since_next, source_in}
 use Rattle.sf_actor.specs.Tries.{ActorKept, ActorOf, ArePermits, contents_in, dequeues_in, held_in, is_dequeue, next_step, past_of}
 use Rattle.sf_actor.specs.Values.{reply_at}
@@ -101,7 +101,7 @@ module _ {B : Type 0} where
       }
 
   -- the actor after one more step, with these parts
-  abbrev pub stepped : ActorOf B → Done → PartsOf B → ActorOf B
+  abbrev pub stepped : ActorOf B → Done → HoldingsOf B → ActorOf B
   stepped actor done parts = record actor {
     parts = parts;
     trace = actor.trace ++ done ∷ [];
@@ -109,7 +109,7 @@ module _ {B : Type 0} where
   }
 
   -- what the actor has after a step: what the step tells, each right being the one that was given
-  pub record PartsMove (pictures : ℕ → Picture) (actor : ActorOf B) (done : Done) (parts : PartsOf B) (share : Share B) : Type 0 where
+  pub record PartsMove (pictures : ℕ → Picture) (actor : ActorOf B) (done : Done) (parts : HoldingsOf B) (share : Share B) : Type 0 where
     pub has : plain_of parts ≡ holdings_next (past_of actor).holdings done
     pub given : (name : ℕ) (held : Holding B) → held_in parts name ≡ Some held → WasGivenAt share.calls (get_or (since_next (past_of actor).since (length actor.trace + 1) done) name 0) (Some (turn_held held))
     pub of_call : (name : ℕ) (held : Holding B) → held_in parts name ≡ Some held → IsOfCall share.calls held
@@ -119,7 +119,7 @@ module _ {B : Type 0} where
     pub permits : ArePermits (stepped actor done parts) share
 
   -- so the actor keeps what it keeps
-  pub actor_with : (pictures : ℕ → Picture) (actor : ActorOf B) (done : Done) (parts : PartsOf B) (old new : Share B) → next_step actor ≡ Some done.step → ActorKept pictures actor old → Adds pictures actor.stock actor.trace (at_end actor.trace done) old new → PartsMove pictures actor done parts new → ActorKept pictures (stepped actor done parts) new
+  pub actor_with : (pictures : ℕ → Picture) (actor : ActorOf B) (done : Done) (parts : HoldingsOf B) (old new : Share B) → next_step actor ≡ Some done.step → ActorKept pictures actor old → Adds pictures actor.stock actor.trace (at_end actor.trace done) old new → PartsMove pictures actor done parts new → ActorKept pictures (stepped actor done parts) new
   actor_with pictures actor done parts old new is_next is adds move =
       let past = past_with actor.trace done in
       record {
@@ -142,7 +142,7 @@ module _ {B : Type 0} where
     pub unused : (number queue : ℕ) (made : Call B) → Contains (added queue) made → MadeWith number made → ⊥
 
   -- the permits of a step that uses none stay
-  pub permits_stay : (pictures : ℕ → Picture) (actor : ActorOf B) (done : Done) (parts : PartsOf B) (old new : Share B) (added : ℕ → List (Call B)) → ActorKept pictures actor old → parts.stock ≡ actor.parts.stock → ((queue : ℕ) → new.calls queue ≡ old.calls queue ++ added queue) → ((number queue : ℕ) (made : Call B) → Contains (added queue) made → MadeWith number made → ⊥) → ArePermits (stepped actor done parts) new
+  pub permits_stay : (pictures : ℕ → Picture) (actor : ActorOf B) (done : Done) (parts : HoldingsOf B) (old new : Share B) (added : ℕ → List (Call B)) → ActorKept pictures actor old → parts.stock ≡ actor.parts.stock → ((queue : ℕ) → new.calls queue ≡ old.calls queue ++ added queue) → ((number queue : ℕ) (made : Call B) → Contains (added queue) made → MadeWith number made → ⊥) → ArePermits (stepped actor done parts) new
   permits_stay pictures actor done parts old new added is same calls unused = record {
     own = λ number there. is.permits.own number (subst (λ (stock : List ℕ). Contains stock number) same there);
     once = λ number. subst (λ (stock : List ℕ). stock_at number stock ≤ 1) (sym same) (is.permits.once number);

@@ -24,7 +24,7 @@ use Rattle.sf_actor.specs.Keeping.{TraceKept}
 use Rattle.sf_actor.specs.Known.{AreAmong, Call, CountsRise, Rise, Share, plain_arrival, told_by}
 use Rattle.sf_actor.specs.Names.{FrameOf}
 use Rattle.sf_actor.specs.Rights.{BringsGiven, EndsIn, HoldsAcquired, IsFrom, IsOfCall, MadeWith, QueuesPicture, SendsAcquired, Turn, WasAcquired, WasTaken, WasGivenAt, WasPaid, brought_turn}
-use Rattle.sf_actor.specs.Tales.{IsMade, made_on, sent_as, step_done}
+use Rattle.sf_actor.specs.ScriptTraces.{IsMade, made_on, sent_as, step_done}
 use Rattle.sf_actor.specs.Traces.{DoneAt, GivenAt, IsAnswered, MadeStep, NoToken, Past, Source, TakenFrame, made_at, made_by, next, no_past, past_after, past_from, places_from, places_of, sent_at}
 use Rattle.sf_actor.specs.Values.{reply_at}
 use Rattle.sf_actor.specs.Written.{FrameNumber, paid_at, paid_in, signal_of, signals_of}

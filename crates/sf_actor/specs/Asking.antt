@@ -17,6 +17,7 @@ use Rattle.sf_actor.specs.Scripts.{crop_of, fence_of, layer_of, queue_of}
 abbrev pub Asked : Type 0
 Asked = QueueId × PlainCall
 
+-- the call of a `request`: the lent buffer that the name holds
 abbrev pub request_of : Option Token → Option Asked
 request_of (Some (Lent queue token drawn)) = Some (queue, call.Request token)
 request_of other = None
@@ -33,10 +34,12 @@ cancel_of fence (Some (Lent queue token None)) = Some (queue, call.Cancel token 
 cancel_of fence (Some (Lent queue token (Some drawn))) = Some (queue, call.Cancel token fence)
 cancel_of fence other = None
 
+-- the call of a `pdetach`: the lent buffer that the name holds
 abbrev pub detach_of : Option Token → Option Asked
 detach_of (Some (Lent queue token drawn)) = Some (queue, call.Detach token)
 detach_of other = None
 
+-- the call of a `pattach`: the loose buffer that the name holds, into this queue
 abbrev pub attach_of : ℕ → Option Token → Option Asked
 attach_of queue (Some (Apart of held)) = Some (queue_of queue, call.Attach held)
 attach_of queue other = None
@@ -45,18 +48,22 @@ attach_of queue other = None
 abbrev pub release_of : Fence → FrameOf → Asked
 release_of fence frame = (frame.0, call.Release frame.1 (merged fence frame.1.fence))
 
+-- the call of a `release`: the frame that the name holds, with this fence
 abbrev pub releasing_of : Fence → Option Token → Option Asked
 releasing_of fence (Some (Frame queue token)) = Some (release_of fence (queue, token))
 releasing_of fence other = None
 
+-- the call of a `cdetach`: the frame that the name holds
 abbrev pub detach_read_of : Option Token → Option Asked
 detach_read_of (Some (Frame queue token)) = Some (queue, call.DetachRead token)
 detach_read_of other = None
 
+-- the call of a `cattach`: the loose buffer that the name holds, into this queue
 abbrev pub attach_read_of : ℕ → Option Token → Option Asked
 attach_read_of queue (Some (Apart of held)) = Some (queue_of queue, call.AttachRead held)
 attach_read_of queue other = None
 
+-- the call of a dequeue, of size 0 by 0 where the step names none
 abbrev pub dequeue_of : ℕ → Option (ℕ × ℕ) → Bool → Asked
 dequeue_of queue size wait = (queue_of queue, call.Dequeue (unwrap_or size (0, 0)).0 (unwrap_or size (0, 0)).1 wait)
 
@@ -90,9 +97,11 @@ may_wait asked = false
 abbrev pub shown_of : FrameOf → Shown
 shown_of frame = record { queue = frame.0; frame = frame.1.frame; picture = frame.1.picture; crop = frame.1.crop }
 
+-- a frame as a buffer that a transaction shows on a layer
 abbrev pub buffer_of : ℕ → FrameOf → Buffer FrameOf
 buffer_of layer frame = record { layer = layer_of layer; shown = shown_of frame; fence = frame.1.fence; lease = frame }
 
+-- the frame of such a buffer
 abbrev pub lease_of : Buffer FrameOf → FrameOf
 lease_of buffer = buffer.lease
 
@@ -101,6 +110,7 @@ abbrev pub replaced_in : Option (Contents FrameOf) → ℕ → Option Token → 
 replaced_in (Some contents) layer (Some (Frame queue token)) = map lease_of (option_to_list (replaced_by contents.buffers (buffer_of layer (queue, token))))
 replaced_in contents layer token = []
 
+-- the frames whose places others take where the second transaction is merged into the first
 abbrev pub merged_away : Option (Contents FrameOf) → Option (Contents FrameOf) → List FrameOf
 merged_away (Some contents) (Some other) = map lease_of (all_replaced contents.buffers other.buffers)
 merged_away contents other = []

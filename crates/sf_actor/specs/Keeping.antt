@@ -11,7 +11,7 @@ use Rattle.sf_actor.specs.declared.tried.Reply.{Reply}
 use Rattle.sf_actor.specs.Draws.{DrawInTurn}
 use Rattle.sf_actor.specs.Known.{AreAmong, Call, Share, own_of}
 use Rattle.sf_actor.specs.Rights.{BringsGiven, EndsIn, MadeWith, QueuesPicture, SendsAcquired, WasPaid}
-use Rattle.sf_actor.specs.Tales.{IsTraceOf, made_on}
+use Rattle.sf_actor.specs.ScriptTraces.{IsTraceOf, made_on}
 use Rattle.sf_actor.specs.Traces.{made_by}
 use Rattle.sf_actor.specs.Written.{FrameNumber, paid_in, signals_of}
 

@@ -14,7 +14,7 @@ use Rattle.sf_token.specs.Pending.{Arrival}
 use Rattle.sf_token.specs.sf_txn.Buffers.{Buffer}
 use Rattle.sf_token.specs.sf_txn.Transactions.{Contents}
 use Rattle.sf_actor.specs.Names.{FrameOf}
-use Rattle.sf_actor.specs.Tales.{OwnOf}
+use Rattle.sf_actor.specs.ScriptTraces.{OwnOf}
 
 -- the queues' marks and calls by the numbers of queues, the newest call first; whether a sender is told its place; and the
 -- arrivals in order

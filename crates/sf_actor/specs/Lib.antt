@@ -5,13 +5,13 @@ pub mod Keeping
 pub mod Known
 pub mod Makers
 pub mod Names
-pub mod Parts
+pub mod Holdings
 pub mod Plain
 pub mod Points
 pub mod Rights
 pub mod Scripts
 pub mod Steps
-pub mod Tales
+pub mod ScriptTraces
 pub mod Tests
 pub mod Traces
 pub mod Tries

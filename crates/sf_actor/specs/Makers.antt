@@ -26,6 +26,7 @@ makes number (reply.Dequeued slot held requested reallocated fence) = reallocate
 makes number (reply.Attached slot held) = held.number == number
 makes number other = false
 
+-- a loose buffer was attached
 abbrev pub is_attached : PlainReply → Bool
 is_attached (reply.Attached slot held) = true
 is_attached other = false
@@ -34,6 +35,7 @@ is_attached other = false
 abbrev pub making_of : List Entry → ℕ → Option Entry
 making_of calls number = find (λ (entry : Entry). makes number entry.reply) calls
 
+-- the buffer of a name that holds a loose one, else this one
 abbrev pub loose_buffer : BufferOf → Option Token → BufferOf
 loose_buffer other (Some (Apart queue held)) = record { queue = queue.0; number = held.number }
 loose_buffer other token = other
@@ -51,6 +53,7 @@ pub record Maker : Type 0 where
   pub made : BufferOf
   pub age : ℕ
 
+-- one attach call older
 abbrev pub older : Maker → Maker
 older maker = record maker { age = maker.age + 1 }
 
@@ -74,6 +77,7 @@ buffer_in (Owing queue owed) = record { queue = queue.0; number = owed.held.numb
 buffer_in (Frame queue token) = record { queue = queue.0; number = token.held.number }
 buffer_in (Apart queue held) = record { queue = queue.0; number = held.number }
 
+-- two buffers were made as one
 abbrev pub same_maker : Maker → Maker → Bool
 same_maker a b = (a.made.queue == b.made.queue) && (a.made.number == b.made.number)
 

@@ -41,9 +41,11 @@ pub record Holdings : Type 0 where
 abbrev pub no_holdings : Holdings
 no_holdings = record { names = replicate 32 None; transactions = replicate 65 None }
 
+-- what a name holds
 abbrev pub name_in : Holdings → ℕ → Option Token
 name_in holdings name = get_or holdings.names name None
 
+-- what a transaction number holds
 abbrev pub transaction_in : Holdings → ℕ → Option (Contents FrameOf)
 transaction_in holdings number = get_or holdings.transactions number None
 
@@ -64,6 +66,7 @@ abbrev pub unless_lent_by : ℕ → Token → Option Token
 unless_lent_by queue (Lent of token drawn) = if of.0 == queue then None else Some (Lent of token drawn)
 unless_lent_by queue token = Some token
 
+-- what a name holds once the leases of this queue are dropped
 abbrev pub dropped_of : ℕ → Option Token → Option Token
 dropped_of queue None = None
 dropped_of queue (Some token) = unless_lent_by queue token
@@ -72,18 +75,22 @@ dropped_of queue (Some token) = unless_lent_by queue token
 abbrev pub without_leases : Holdings → ℕ → Holdings
 without_leases holdings queue = record holdings { names = map (dropped_of queue) holdings.names }
 
+-- it is a lent buffer
 abbrev pub is_lent : Option Token → Bool
 is_lent (Some (Lent queue token drawn)) = true
 is_lent other = false
 
+-- it is a drawing that is owed
 abbrev pub is_owing : Option Token → Bool
 is_owing (Some (Owing queue owed)) = true
 is_owing other = false
 
+-- it is a frame, or a buffer of the consumer's own
 abbrev pub is_frame : Option Token → Bool
 is_frame (Some (Frame queue token)) = true
 is_frame other = false
 
+-- it is a buffer in no queue
 abbrev pub is_apart : Option Token → Bool
 is_apart (Some (Apart queue held)) = true
 is_apart other = false

@@ -28,10 +28,12 @@ abbrev pub requested_fence : Option Token → Option Fence
 requested_fence (Some (Lent queue token drawn)) = if token.requested then Some token.fence else None
 requested_fence other = None
 
+-- the fence of a frame that a name holds
 abbrev pub frame_fence : Option Token → Option Fence
 frame_fence (Some (Frame queue token)) = Some token.fence
 frame_fence other = None
 
+-- what a step that takes a buffer out of its queue has to wait for
 abbrev pub detached_fence : Holdings → Step → Option Fence
 detached_fence holdings (step.PDetach s b) = requested_fence (name_in holdings s)
 detached_fence holdings (step.CDetach i b) = frame_fence (name_in holdings i)
@@ -41,6 +43,7 @@ detached_fence holdings other = None
 abbrev pub reached_by : Fence → Seen
 reached_by shown = record { values = shown.values }
 
+-- the fence, or none where there is none
 abbrev pub or_none : Option Fence → Fence
 or_none None = no_points
 or_none (Some fence) = fence

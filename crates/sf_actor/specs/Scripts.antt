@@ -24,9 +24,11 @@ unfoldable pub picture_at : List Picture → ℕ → Picture
 picture_at [] number = no_picture
 picture_at (picture ∷ pictures) number = if picture.number == number then picture else picture_at pictures number
 
+-- the queue of this number
 abbrev pub queue_of : ℕ → QueueId
 queue_of number = record { 0 = number }
 
+-- the layer of this number
 abbrev pub layer_of : ℕ → LayerId
 layer_of number = record { 0 = number }
 
@@ -35,6 +37,7 @@ abbrev pub with_points : Fence → List (ℕ × ℕ) → Fence
 with_points fence [] = fence
 with_points fence (point ∷ points) = with_points (with_point fence point.0 point.1) points
 
+-- the fence of these points
 abbrev pub fence_of : List (ℕ × ℕ) → Fence
 fence_of points = with_points no_points points
 
@@ -42,10 +45,12 @@ fence_of points = with_points no_points points
 abbrev pub whole : Held → Rect
 whole held = record { x = pos 0; y = pos 0; width = held.width; height = held.height }
 
+-- the crop that a step names, else the whole buffer
 abbrev pub crop_of : Held → Option (ℕ × ℕ × ℕ × ℕ) → Rect
 crop_of held None = whole held
 crop_of held (Some crop) = record { x = pos crop.0; y = pos crop.1; width = crop.2; height = crop.3 }
 
+-- what a layer hangs from: the root for 0, another layer for its number, nothing for none
 abbrev pub parent_of : Option ℕ → Parent
 parent_of None = parent.Nothing
 parent_of (Some number) = if number == 0 then parent.Root else parent.Layer (layer_of number)

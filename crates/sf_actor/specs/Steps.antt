@@ -15,6 +15,7 @@ use Rattle.sf_actor.specs.Asking.{buffer_of}
 use Rattle.sf_actor.specs.Names.{Holdings, FrameOf, Token, Lent, Owing, Frame, Apart, moved, name_in, transaction_in, with_name, with_transaction, without_leases}
 use Rattle.sf_actor.specs.Scripts.{layer_of, op_of, queue_of}
 
+-- the call was refused
 abbrev pub is_refusal : PlainReply → Bool
 is_refusal (reply.Refused status) = true
 is_refusal other = false
@@ -31,6 +32,7 @@ lent_by holdings q s (answered.Called (reply.Dequeued slot held requested reallo
     with_name holdings s (Some (Lent (queue_of q) (record { slot = slot; held = held; requested = requested; fence = fence; drawn = false }) None))
 lent_by holdings q s other = holdings
 
+-- a lent buffer whose producer knows it now
 abbrev pub requested : Option Token → Option Token
 requested (Some (Lent queue token drawn)) = Some (Lent queue (record token { requested = true }) drawn)
 requested other = other
@@ -52,6 +54,7 @@ detached holdings from to (Some (Lent queue token drawn)) = moved holdings from 
 detached holdings from to (Some (Frame queue token)) = moved holdings from to (Apart queue token.held)
 detached holdings from to other = holdings
 
+-- a loose buffer that was attached is lent under the other name, requested and without a fence
 abbrev pub attached : Holdings → ℕ → ℕ → ℕ → Answered → Holdings
 attached holdings q from to (answered.Called (reply.Attached slot held)) =
     moved holdings from to (Lent (queue_of q) (record { slot = slot; held = held; requested = true; fence = no_points; drawn = false }) None)
@@ -64,9 +67,11 @@ taken_by holdings q i (answered.Called (reply.Acquired item dropped)) =
     (Some (Frame (queue_of q) (record { slot = item.slot; frame = item.frame; held = item.held; picture = item.picture; crop = item.crop; fence = item.fence })))
 taken_by holdings q i other = holdings
 
+-- the crop of a buffer of the consumer's own
 abbrev pub no_crop : Rect
 no_crop = record { x = pos 0; y = pos 0; width = 0; height = 0 }
 
+-- a loose buffer that was attached is the consumer's under the other name, with frame number 0
 abbrev pub attached_read : Holdings → ℕ → ℕ → ℕ → Answered → Holdings
 attached_read holdings q from to (answered.Called (reply.Attached slot held)) =
     moved holdings from to (Frame (queue_of q) (record { slot = slot; frame = 0; held = held; picture = 0; crop = no_crop; fence = no_points }))
@@ -142,6 +147,7 @@ filled_by s = None
 abbrev pub addressed : ℕ → Contents FrameOf → Contents FrameOf
 addressed token txn = record txn { token = record { 0 = token } }
 
+-- the transaction that an `apply` sends, under its token
 abbrev pub sent_by : Holdings → Step → Option (Contents FrameOf)
 sent_by holdings (step.Apply n token) = option_map (addressed token) (transaction_in holdings n)
 sent_by holdings s = None

@@ -7,6 +7,7 @@ use Rattle.sf_script_scene.specs.declared.step.Step.{Step}
 use Rattle.sf_script_scene.specs.declared.step.Step.TheVariants as step
 use Rattle.sf_actor.specs.Names.{Holdings, Token, Lent, Owing, Frame, is_lent, is_owing, is_frame, is_apart, name_in, transaction_in}
 
+-- the status of a test of values
 abbrev pub bad_value : ℕ
 bad_value = 11
 

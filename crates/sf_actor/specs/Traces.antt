@@ -30,10 +30,12 @@ pub record Past : Type 0 where
 abbrev pub no_past : Past
 no_past = record { holdings = no_holdings; shown = no_points; since = replicate 32 0 }
 
+-- of each name the step that filled it last, once this step filled this name, if it filled one
 abbrev pub since_with : List ℕ → Option ℕ → ℕ → List ℕ
 since_with since None place = since
 since_with since (Some name) place = slice_set since name place
 
+-- the same after one more done step, at this place
 abbrev pub since_next : List ℕ → ℕ → Done → List ℕ
 since_next since place done = if was_done done.answered then since_with since (filled_by done.step) place else since
 
@@ -51,6 +53,7 @@ pub record DoneAt : Type 0 where
   pub past : Past
   pub done : Done
 
+-- the done steps with their places, from this one on, each with what was before it
 unfoldable pub places_from : ℕ → Past → List Done → List DoneAt
 places_from place past [] = []
 places_from place past (done ∷ later) = record { place = place; past = past; done = done } ∷ places_from (place + 1) (next place past done) later
@@ -59,6 +62,7 @@ places_from place past (done ∷ later) = record { place = place; past = past; d
 abbrev pub places_of : List Done → List DoneAt
 places_of trace = places_from 1 no_past trace
 
+-- what is known after these steps, of which the first has this place
 unfoldable pub past_from : ℕ → Past → List Done → Past
 past_from place past [] = past
 past_from place past (done ∷ later) = past_from (place + 1) (next place past done) later
@@ -72,6 +76,7 @@ abbrev pub IsPassed : Option Fence → Seen → Type 0
 IsPassed None values = Unit {0}
 IsPassed (Some fence) values = IsSignalled fence values
 
+-- the queue had no slot for a producer
 abbrev pub is_blocked : PlainReply → Bool
 is_blocked (reply.Refused status.WouldBlock) = true
 is_blocked replied = false
@@ -100,6 +105,7 @@ AnswersTests pictures values past s answer None =
     PassesFence (detached_fence past.holdings s) values past.shown answer
     (IsPassed (waited_fence past.holdings s) values × AnswersCall (call_of pictures past.holdings s) (sent_by past.holdings s) answer)
 
+-- a done step is answered so after those before it
 abbrev pub IsAnswered : (ℕ → Picture) → Seen → DoneAt → Type 0
 IsAnswered pictures values at = AnswersTests pictures values at.past at.done.step at.done.answered (refusal_of pictures at.past.holdings at.done.step)
 
@@ -122,6 +128,7 @@ pub record MadeStep : Type 0 where
   pub told : Option PlainReply
   pub brings : Source
 
+-- the step that gave the token that a name holds
 abbrev pub source_in : List ℕ → Option ℕ → Source
 source_in since None = NoToken
 source_in since (Some name) = GivenAt (get_or since name 0)
@@ -155,10 +162,12 @@ pub record SentStep : Type 0 where
   pub number : ℕ
   pub txn : Contents FrameOf
 
+-- what a step sent that was answered by the number of an arrival
 abbrev pub sent_with : ℕ → Answered → Option (Contents FrameOf) → List SentStep
 sent_with place (answered.Sent number) (Some txn) = record { step = place; number = number; txn = txn } ∷ []
 sent_with place answer sent = []
 
+-- what a done step sent
 abbrev pub sent_at : DoneAt → List SentStep
 sent_at at = sent_with at.place at.done.answered (sent_by at.past.holdings at.done.step)
 

@@ -30,7 +30,7 @@ use Rattle.sf_actor.specs.Asking.{Asked, call_of}
 use Rattle.sf_actor.specs.Desks.{DeskHome, DeskView, WaitsForCall, has_queue, known_of, looks}
 use Rattle.sf_actor.specs.Keeping.{TraceKept}
 use Rattle.sf_actor.specs.Known.{Call, GoesOn, Share, share_of}
-use Rattle.sf_actor.specs.Parts.{PartsOf, ShowsPictures, plain_of, queue_held, turn_held}
+use Rattle.sf_actor.specs.Holdings.{HoldingsOf, ShowsPictures, plain_of, queue_held, turn_held}
 use Rattle.sf_actor.specs.Points.{detached_fence, waited_fence}
 use Rattle.sf_actor.specs.Rights.{HoldsAcquired, IsOfCall, MadeWith, Turn, WasGivenAt}
 use Rattle.sf_actor.specs.Steps.{was_done}
@@ -44,7 +44,7 @@ use Rattle.sf_actor.specs.Written.{signal_of}
 pub record ActorOf (B : Type 0) : Type 0 where
   pub script : ActorScript
   pub stock : List ℕ
-  pub parts : PartsOf B
+  pub parts : HoldingsOf B
   pub trace : List Done
   pub replies : List Reply
   pub spent : Bool
@@ -59,10 +59,10 @@ abbrev pub dequeues_in : List Step → ℕ
 dequeues_in steps = length (filter is_dequeue steps)
 
 module _ {B : Type 0} where
-  abbrev pub held_in : PartsOf B → ℕ → Option (Holding B)
+  abbrev pub held_in : HoldingsOf B → ℕ → Option (Holding B)
   held_in parts name = get_or parts.names name None
 
-  abbrev pub contents_in : PartsOf B → ℕ → Option (Contents ReadLeaseOf)
+  abbrev pub contents_in : HoldingsOf B → ℕ → Option (Contents ReadLeaseOf)
   contents_in parts number = get_or parts.transactions number None
 
   -- the next step, and what is known behind the steps before it
@@ -93,7 +93,7 @@ module _ {B : Type 0} where
     pub permits : ArePermits actor share
 
   -- the desk has the queue of each token and of each frame of a transaction
-  pub record AreThere (home : DeskHome) (parts : PartsOf B) : Type 0 where
+  pub record AreThere (home : DeskHome) (parts : HoldingsOf B) : Type 0 where
     pub names : (name : ℕ) (held : Holding B) → held_in parts name ≡ Some held → has_queue home (queue_held held).0 ≡ true
     pub frames : (number : ℕ) (txn : Contents ReadLeaseOf) → contents_in parts number ≡ Some txn
         → All (λ (buffer : Buffer ReadLeaseOf). has_queue home buffer.lease.queue.0 ≡ true) txn.buffers
@@ -153,14 +153,14 @@ module _ {B : Type 0} where
   owed_turn other = []
 
   -- the turn that a step ends: of a drawn lease that it queues, cancels or detaches, or of an owing that it draws
-  abbrev pub turn_ended : PartsOf B → Step → List Turn
+  abbrev pub turn_ended : HoldingsOf B → Step → List Turn
   turn_ended parts (step.Queue s p time crop points) = drawn_turn (held_in parts s)
   turn_ended parts (step.Cancel s points) = drawn_turn (held_in parts s)
   turn_ended parts (step.PDetach s b) = drawn_turn (held_in parts s)
   turn_ended parts (step.Draw s p) = owed_turn (held_in parts s)
   turn_ended parts s = []
 
-  abbrev pub ended_by : PartsOf B → Done → List Turn
+  abbrev pub ended_by : HoldingsOf B → Done → List Turn
   ended_by parts done = if was_done done.answered then turn_ended parts done.step else []
 
   -- A step that is done adds its trace entry and its reply, and the signals and turns that the entry tells; and where what is

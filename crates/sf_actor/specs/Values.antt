@@ -13,6 +13,7 @@ use Rattle.sf_script_scene.specs.declared.step.Step.TheVariants as step
 use Rattle.sf_actor.specs.Names.{Holdings, Token, Lent, name_in}
 use Rattle.sf_actor.specs.Traces.{DoneAt, places_of}
 
+-- the status of a call's reply, 0 where it was done
 abbrev pub reply_status : PlainReply → ℕ
 reply_status (reply.Refused status) = number_of status
 reply_status other = 0

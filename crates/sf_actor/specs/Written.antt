@@ -31,6 +31,7 @@ written_by holdings (step.Queue s p time crop points) (answered.Called (reply.Qu
 written_by holdings (step.Draw s p) (answered.Own status) = if status == 0 then paid_frame (name_in holdings s) else []
 written_by holdings s answer = []
 
+-- the frames that a done step wrote
 abbrev pub written_at : DoneAt → List FrameNumber
 written_at at = written_by at.past.holdings at.done.step at.done.answered
 
@@ -43,6 +44,7 @@ abbrev pub paid_by : Holdings → Step → Answered → List FrameNumber
 paid_by holdings (step.Draw s p) (answered.Own status) = if status == 0 then paid_frame (name_in holdings s) else []
 paid_by holdings s answer = []
 
+-- the frames whose owed drawing a done step did
 abbrev pub paid_at : DoneAt → List FrameNumber
 paid_at at = paid_by at.past.holdings at.done.step at.done.answered
 
@@ -54,5 +56,6 @@ abbrev pub signal_of : Step → List (ℕ × ℕ)
 signal_of (step.Signal t v) = (t, v) ∷ []
 signal_of s = []
 
+-- the points that a trace signalled
 abbrev pub signals_of : List Done → List (ℕ × ℕ)
 signals_of trace = flat_map (λ (done : Done). signal_of done.step) trace

@@ -1,3 +1,5 @@
+//! What an actor steps over, as a trait: the objects of one thread, or seats over what threads
+//! share. All steps are written over it.
 ghost use Rattle.std.specs.Prelude.{◌≡◌, ℕ, ◌-◌, ◌≤◌, true, IfOk, IfErr, slice_index};
 ghost use Rattle.sf_base.specs.Points.{greatest, points_from};
 ghost use Rattle.sf_token.specs.sf_calls.Calling.{IfFaultNoMemory, IfFaultNotYet};
@@ -10,7 +12,7 @@ use crate::tokens::Tokens;
 use sf_base::{ActorId, NoMemory, QueueId, Seen, TimelineId};
 use sf_script_scene::sf_picture::Picture;
 use sf_surface::DrawFault;
-use sf_token::sf_calls::CallFault;
+use sf_token::CallFault;
 use std::alloc::Global;
 
 /// What an actor steps over: queues to call, arrivals to send transactions to, timelines, and turns

@@ -1,5 +1,6 @@
+//! A step that is done, with what it answered: what an actor's trace is made of.
 use sf_script_scene::Step;
-use sf_surface::sf_slots::PlainReply;
+use sf_surface::PlainReply;
 
 /// What a step answered.
 #[derive(Drop)]

@@ -1,7 +1,6 @@
+//! What a name of an actor holds: a lent buffer, a drawing that is owed, a frame or a loose buffer.
 use sf_base::QueueId;
-use sf_surface::sf_slots::Held;
-use sf_surface::sf_turns::TableName;
-use sf_surface::{Loose, Owing, ReadLease, WriteLease};
+use sf_surface::{Held, Loose, Owing, ReadLease, TableName, WriteLease};
 
 /// What a name of an actor holds.
 #[derive(Drop)]

@@ -1,3 +1,4 @@
+//! Laws about actors and their traces, called for their clauses alone.
 ghost use Rattle.std.specs.Prelude.{ℕ, List};
 ghost use Rattle.sf_script_scene.specs.sf_picture.declared.picture.Picture.{Picture};
 ghost use Rattle.sf_actor.specs.declared.done.Done.{Done};
@@ -7,7 +8,7 @@ ghost use Rattle.sf_actor.specs.Keeping.{TraceKept};
 ghost use Rattle.sf_actor.specs.Known.{GoesOn, Known, share_of};
 ghost use Rattle.sf_actor.specs.Tries.{ActorKept, ActorOf};
 
-use sf_surface::sf_turns::TableName;
+use sf_surface::TableName;
 
 /// What an actor's trace keeps stays true where the histories go on without an entry of it, where
 /// values rise, and where signals and turns left are added.

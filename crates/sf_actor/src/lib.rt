@@ -9,6 +9,7 @@ mod done;
 mod holding;
 mod laws;
 mod plain;
+mod settling;
 mod tokens;
 mod tried;
 
@@ -17,11 +18,14 @@ pub use done::{Answered, Done};
 pub use holding::Holding;
 pub use laws::{a_trace_keeps_what_it_keeps, an_actor_keeps_what_it_keeps};
 pub use plain::PlainDesk;
-pub use sf_script_scene;
-pub use sf_script_scene::sf_picture;
-pub use sf_surface;
-pub use sf_surface::{sf_slots, sf_turns};
-pub use sf_times;
-pub use sf_token::{sf_calls, sf_layer, sf_txn};
+pub use settling::settle;
+pub use sf_script_scene::sf_picture::{Painted, Picture};
+pub use sf_script_scene::{ActorScript, Change, Points, QueueDecl, Step};
+pub use sf_surface::{
+    DrawFault, Ending, Gives, Held, HistEntry, Loose, Owing, Permit, QCall, QReply, QueueObject,
+    ReadLease, Stock, TableName, TurnSeat, Work, WriteLease,
+};
+pub use sf_times::Timelines;
+pub use sf_token::{BufferOp, CallFault, Kind, Lease, Op, Parent, Shown, Transaction};
 pub use tokens::{Tokens, TokensOf};
 pub use tried::{Reply, Stepped};

@@ -1,3 +1,5 @@
+//! The desk of one thread, which has queues, arrivals and timelines itself: a play has it, and so
+//! do the rounds of a live run.
 ghost use Rattle.std.specs.Prelude.{◌≡◌, ◌∷◌, IfOk, IfErr};
 ghost use Rattle.std.specs.List.{position};
 ghost use Rattle.sf_token.specs.sf_calls.Calling.{IfFaultNoMemory, IfFaultNotYet};
@@ -11,12 +13,12 @@ use crate::desk::Desk;
 use crate::tokens::TokensOf;
 use sf_base::{ActorId, NoMemory, QueueId, Seen, TimelineId};
 use sf_script_scene::sf_picture::{Painted, Picture};
-use sf_surface::sf_turns::{TableName, TurnSeat};
-use sf_surface::{DrawFault, Ending, Owing, QCall, QReply, QueueObject, ReadLease, WriteLease};
+use sf_surface::{
+    DrawFault, Ending, Owing, QCall, QReply, QueueObject, ReadLease, TableName, TurnSeat,
+    WriteLease,
+};
 use sf_times::{TimeSeat, Timelines};
-use sf_token::sf_calls::{CallFault, Object, Outcome};
-use sf_token::sf_txn::Transaction;
-use sf_token::{Arrivals, ArriveCall, ArriveReply};
+use sf_token::{Arrivals, ArriveCall, ArriveReply, CallFault, Object, Outcome, Transaction};
 use std::alloc::Global;
 use std::marker::{Brand, Model};
 

@@ -1,3 +1,4 @@
+//! The types of the tokens that a desk's calls take and give.
 ghost use Rattle.std.specs.Prelude.{Result};
 ghost use Rattle.atomic_table.specs.Seated.{TableId};
 ghost use Rattle.sf_base.specs.declared.fences.Seen.{Seen};
@@ -9,9 +10,8 @@ ghost use Rattle.sf_surface.specs.Tokens.{EndingOf, ReadLeaseOf};
 ghost use Rattle.sf_surface.specs.sf_turns.Views.{SeatView};
 ghost use Rattle.sf_token.specs.sf_txn.Transactions.{Contents};
 
-use sf_surface::sf_turns::TableName;
-use sf_surface::{Ending, Owing, QCall, QReply, ReadLease, WriteLease};
-use sf_token::sf_txn::Transaction;
+use sf_surface::{Ending, Owing, QCall, QReply, ReadLease, TableName, WriteLease};
+use sf_token::Transaction;
 use std::marker::PhantomData;
 
 /// The types of what a desk's calls bring and give. A desk's clauses speak of each by what contracts

@@ -49,29 +49,29 @@ module _ {B : Type 0} where
           rest_keep number goes actors ofs (All-tail (λ other. number ≢ other) actor.script.number (numbers_of (scripts_of actors)) differ) keep.1,
         )
 
-    all_keep : (one : Actor B) (its : ActorOf B) → KeepsAs table pictures home after one its → (place : ℕ) (actors : List (Actor B)) (ofs : List (ActorOf B)) → place < length actors
+    all_keep : (one : Actor B) (its : ActorOf B) → KeepsAs table pictures home after one its → (index : ℕ) (actors : List (Actor B)) (ofs : List (ActorOf B)) → index < length actors
         → AllPairs (λ m n. m ≢ n) (numbers_of (scripts_of actors))
-        → ((of : ActorOf B) → of.script.number ≢ get_or (numbers_of (scripts_of actors)) place 0 → Keeps pictures home of before → Keeps pictures home of after)
-        → KeepAs table pictures home before actors ofs → KeepAs table pictures home after (set actors place one) (set ofs place its)
-    all_keep one its is place [] ofs there differ goes keep = absurd (omega arith)
-    all_keep one its is place (actor ∷ actors) [] there differ goes keep = absurd keep
+        → ((of : ActorOf B) → of.script.number ≢ get_or (numbers_of (scripts_of actors)) index 0 → Keeps pictures home of before → Keeps pictures home of after)
+        → KeepAs table pictures home before actors ofs → KeepAs table pictures home after (set actors index one) (set ofs index its)
+    all_keep one its is index [] ofs there differ goes keep = absurd (omega arith)
+    all_keep one its is index (actor ∷ actors) [] there differ goes keep = absurd keep
     all_keep one its is zero (actor ∷ actors) (of ∷ ofs) there differ goes keep =
         (is, rest_keep actor.script.number goes actors ofs (λ k d below. differ zero (suc k) d (omega arith) (omega arith)) keep.1)
-    all_keep one its is (suc place) (actor ∷ actors) (of ∷ ofs) there differ goes keep =
+    all_keep one its is (suc index) (actor ∷ actors) (of ∷ ofs) there differ goes keep =
         let same = ap (λ (script : ActorScript). script.number) keep.0.is.script in
         let many = length-map (scripts_of actors) (λ (script : ActorScript). script.number) in
         let more = length-map actors script_of in (
-          record { is = keep.0.is; keeps = goes of (λ e. differ zero (suc place) 0 (omega arith) (omega (arith, many, more)) (sym same ∙ e)) keep.0.keeps },
-          all_keep one its is place actors ofs (omega arith) (λ i j d up below. differ (suc i) (suc j) d (omega arith) (omega arith)) goes keep.1,
+          record { is = keep.0.is; keeps = goes of (λ e. differ zero (suc index) 0 (omega arith) (omega (arith, many, more)) (sym same ∙ e)) keep.0.keeps },
+          all_keep one its is index actors ofs (omega arith) (λ i j d up below. differ (suc i) (suc j) d (omega arith) (omega arith)) goes keep.1,
         )
 
-    -- the actor at a place is one of those that keep
-    kept_at : (place : ℕ) (actors : List (Actor B)) (ofs : List (ActorOf B)) (d : Actor B) → place < length actors → KeepAs table pictures home before actors ofs
-        → (of : ActorOf B) × (slice_get ofs place ≡ Some of) × KeepsAs table pictures home before (get_or actors place d) of × ((get_or actors place d).script.number ≡ get_or (numbers_of (scripts_of actors)) place 0)
-    kept_at place [] ofs d there keep = absurd (omega arith)
-    kept_at place (first ∷ actors) [] d there keep = absurd keep
+    -- the actor at an index is one of those that keep
+    kept_at : (index : ℕ) (actors : List (Actor B)) (ofs : List (ActorOf B)) (d : Actor B) → index < length actors → KeepAs table pictures home before actors ofs
+        → (of : ActorOf B) × (slice_get ofs index ≡ Some of) × KeepsAs table pictures home before (get_or actors index d) of × ((get_or actors index d).script.number ≡ get_or (numbers_of (scripts_of actors)) index 0)
+    kept_at index [] ofs d there keep = absurd (omega arith)
+    kept_at index (first ∷ actors) [] d there keep = absurd keep
     kept_at zero (first ∷ actors) (of ∷ ofs) d there keep = (of, refl, keep.0, refl)
-    kept_at (suc place) (first ∷ actors) (of ∷ ofs) d there keep = kept_at place actors ofs d (omega arith) keep.1
+    kept_at (suc index) (first ∷ actors) (of ∷ ofs) d there keep = kept_at index actors ofs d (omega arith) keep.1
 
     -- actors that keep what they keep do so as some traces
     pub gathered : (actors : List (Actor B)) → All (λ actor. IsKept table pictures home actor before) actors → (ofs : List (ActorOf B)) × KeepAs table pictures home before actors ofs
@@ -97,56 +97,56 @@ module _ {B : Type 0} where
   read_set (first ∷ xs) zero x low = refl
   read_set (first ∷ xs) (suc n) x low = read_set xs n x (omega arith)
 
-  -- what a try of the actor at a place comes to, whatever the traces
+  -- what a try of the actor at an index comes to, whatever the traces
   abbrev pub TriesAt : TableId → List Picture → ℕ → List (Actor B) → PlainOf B → List (Actor B) → PlainOf B → Result Stepped NoMemory → Type 0
-  TriesAt table pictures place actors before news after came_to =
-      (ofs : List (ActorOf B)) → KeepAs table (picture_at pictures) (home_of before) (view_of before) actors ofs → IfOk came_to (StepsAt table (picture_at pictures) place actors ofs before news after)
+  TriesAt table pictures index actors before news after came_to =
+      (ofs : List (ActorOf B)) → KeepAs table (picture_at pictures) (home_of before) (view_of before) actors ofs → IfOk came_to (StepsAt table (picture_at pictures) index actors ofs before news after)
 
-  -- a try of the actor at a place is one of the actor set
-  pub steps_at : (table : TableId) (pictures : ℕ → Picture) (place : ℕ) (actors : List (Actor B)) (ofs : List (ActorOf B)) (before after : PlainOf B) (d one : Actor B) (came_to : Result Stepped NoMemory)
-      → place < length actors → IsStrictlyIncreasing (numbers_of (scripts_of actors)) → home_of after ≡ home_of before
-      → ((of : ActorOf B) → IsActor table (get_or actors place d) of → Keeps pictures (home_of before) of (view_of before) → IfOk came_to (Steps table pictures (home_of before) (get_or actors place d).bindings of (view_of before) one (view_of after)))
-      → KeepAs table pictures (home_of before) (view_of before) actors ofs → IfOk came_to (StepsAt table pictures place actors ofs before (set actors place one) after)
-  steps_at table pictures place actors ofs before after d one (Err e) there rising same steps keep = tt
-  steps_at table pictures place actors ofs before after d one (Ok came_to) there rising same steps keep =
+  -- a try of the actor at an index is one of the actor set
+  pub steps_at : (table : TableId) (pictures : ℕ → Picture) (index : ℕ) (actors : List (Actor B)) (ofs : List (ActorOf B)) (before after : PlainOf B) (d one : Actor B) (came_to : Result Stepped NoMemory)
+      → index < length actors → IsStrictlyIncreasing (numbers_of (scripts_of actors)) → home_of after ≡ home_of before
+      → ((of : ActorOf B) → IsActor table (get_or actors index d) of → Keeps pictures (home_of before) of (view_of before) → IfOk came_to (Steps table pictures (home_of before) (get_or actors index d).bindings of (view_of before) one (view_of after)))
+      → KeepAs table pictures (home_of before) (view_of before) actors ofs → IfOk came_to (StepsAt table pictures index actors ofs before (set actors index one) after)
+  steps_at table pictures index actors ofs before after d one (Err e) there rising same steps keep = tt
+  steps_at table pictures index actors ofs before after d one (Ok came_to) there rising same steps keep =
       let home = home_of before in
-      let at = kept_at table pictures home (view_of before) (view_of after) place actors ofs d there keep in
+      let at = kept_at table pictures home (view_of before) (view_of after) index actors ofs d there keep in
       let old = at.0 in
       let does = steps old at.2.is at.2.keeps in
-      let number : old.script.number ≡ get_or (numbers_of (scripts_of actors)) place 0 = ap (λ (script : ActorScript). script.number) at.2.is.script ∙ at.3 in
+      let number : old.script.number ≡ get_or (numbers_of (scripts_of actors)) index 0 = ap (λ (script : ActorScript). script.number) at.2.is.script ∙ at.3 in
       record {
         old = old;
         new = does.new;
         here = at.1;
         tries = does.tries;
-        keep = subst (λ (h : DeskHome). KeepAs table pictures h (view_of after) (set actors place one) (set ofs place does.new)) (sym same)
-            (all_keep table pictures home (view_of before) (view_of after) one does.new (record { is = does.is; keeps = does.keeps }) place actors ofs there (rising_differ _ rising)
+        keep = subst (λ (h : DeskHome). KeepAs table pictures h (view_of after) (set actors index one) (set ofs index does.new)) (sym same)
+            (all_keep table pictures home (view_of before) (view_of after) one does.new (record { is = does.is; keeps = does.keeps }) index actors ofs there (rising_differ _ rising)
             (λ of other. others_keep pictures home old does.new (view_of before) (view_of after) came_to refl does.tries of (λ e. other (e ∙ number))) keep);
-        was_here = get_or actors place d;
+        was_here = get_or actors index d;
         now_here = one;
-        was_at = read_at actors place d there;
-        now_at = read_set actors place one there;
+        was_at = read_at actors index d there;
+        now_at = read_set actors index one there;
         acts = does.acts;
       }
 
-  -- the actor at a place may play
-  pub plays_at : (home : DeskHome) (pictures : List Picture) (actors : List (Actor B)) (place : ℕ) (d : Actor B) → place < length actors → All (MayPlay home pictures) (scripts_of actors) → MayPlay home pictures (get_or actors place d).script
-  plays_at home pictures actors place d there plays =
+  -- the actor at an index may play
+  pub plays_at : (home : DeskHome) (pictures : List Picture) (actors : List (Actor B)) (index : ℕ) (d : Actor B) → index < length actors → All (MayPlay home pictures) (scripts_of actors) → MayPlay home pictures (get_or actors index d).script
+  plays_at home pictures actors index d there plays =
       let many = length-map actors script_of in
-      subst (MayPlay home pictures) (get_or-map script_of actors place d d.script there) (plays place d.script (omega (arith, many, there)))
+      subst (MayPlay home pictures) (get_or-map script_of actors index d d.script there) (plays index d.script (omega (arith, many, there)))
 
   -- the scripts stay
-  pub same_scripts : (actors : List (Actor B)) (place : ℕ) (d one : Actor B) → place < length actors → one.script ≡ (get_or actors place d).script → scripts_of (set actors place one) ≡ scripts_of actors
-  same_scripts [] place d one there same = absurd (omega arith)
+  pub same_scripts : (actors : List (Actor B)) (index : ℕ) (d one : Actor B) → index < length actors → one.script ≡ (get_or actors index d).script → scripts_of (set actors index one) ≡ scripts_of actors
+  same_scripts [] index d one there same = absurd (omega arith)
   same_scripts (first ∷ actors) zero d one there same = ap (λ (script : ActorScript). script ∷ scripts_of actors) same
-  same_scripts (first ∷ actors) (suc place) d one there same = ap (λ (scripts : List ActorScript). first.script ∷ scripts) (same_scripts actors place d one (omega arith) same)
+  same_scripts (first ∷ actors) (suc index) d one there same = ap (λ (scripts : List ActorScript). first.script ∷ scripts) (same_scripts actors index d one (omega arith) same)
 
   -- actors of which each keeps what it keeps still do after a try that found memory
-  pub still_kept : (table : TableId) (pictures : ℕ → Picture) (place : ℕ) (actors news : List (Actor B)) (before after : PlainOf B) (came_to : Stepped)
+  pub still_kept : (table : TableId) (pictures : ℕ → Picture) (index : ℕ) (actors news : List (Actor B)) (before after : PlainOf B) (came_to : Stepped)
       → All (λ actor. IsKept table pictures (home_of before) actor (view_of before)) actors
-      → ((ofs : List (ActorOf B)) → KeepAs table pictures (home_of before) (view_of before) actors ofs → StepsAt table pictures place actors ofs before news after came_to)
+      → ((ofs : List (ActorOf B)) → KeepAs table pictures (home_of before) (view_of before) actors ofs → StepsAt table pictures index actors ofs before news after came_to)
       → All (λ actor. IsKept table pictures (home_of after) actor (view_of after)) news
-  still_kept table pictures place actors news before after came_to kept steps =
+  still_kept table pictures index actors news before after came_to kept steps =
       let all = gathered table pictures (home_of before) (view_of before) (view_of after) actors kept in
       kept_as table pictures (home_of after) (view_of after) (view_of after) news _ (steps all.0 all.1).keep
 
@@ -158,27 +158,27 @@ module _ {B : Type 0} where
       (subst (λ (xs : List (Actor B)). MayStep table pictures xs desk) (sym same_actors) (record { rising = is.rising; plays = is.plays; kept = is.kept unspent }))
 
   -- the tries of what was lent are those of the actor set
-  pub as_lent : (table : TableId) (pictures shown : List Picture) (place : ℕ) (actors lent news : List (Actor B)) (before after : PlainOf B) (came_to : Result Stepped NoMemory) → shown ≡ pictures → lent ≡ actors
-      → TriesAt table shown place lent before news after came_to → TriesAt table pictures place actors before news after came_to
-  as_lent table pictures shown place actors lent news before after came_to same_pictures same_actors tries =
-      subst (λ (ps : List Picture). TriesAt table ps place actors before news after came_to) same_pictures
-      (subst (λ (xs : List (Actor B)). TriesAt table shown place xs before news after came_to) same_actors tries)
+  pub as_lent : (table : TableId) (pictures shown : List Picture) (index : ℕ) (actors lent news : List (Actor B)) (before after : PlainOf B) (came_to : Result Stepped NoMemory) → shown ≡ pictures → lent ≡ actors
+      → TriesAt table shown index lent before news after came_to → TriesAt table pictures index actors before news after came_to
+  as_lent table pictures shown index actors lent news before after came_to same_pictures same_actors tries =
+      subst (λ (ps : List Picture). TriesAt table ps index actors before news after came_to) same_pictures
+      (subst (λ (xs : List (Actor B)). TriesAt table shown index xs before news after came_to) same_actors tries)
 
-  kept_unless : (table : TableId) (pictures : List Picture) (place : ℕ) (actors news : List (Actor B)) (before after : PlainOf B) (came_to : Result Stepped NoMemory)
-      → All (λ actor. IsKept table (picture_at pictures) (home_of before) actor (view_of before)) actors → TriesAt table pictures place actors before news after came_to → is_err came_to ≡ false
+  kept_unless : (table : TableId) (pictures : List Picture) (index : ℕ) (actors news : List (Actor B)) (before after : PlainOf B) (came_to : Result Stepped NoMemory)
+      → All (λ actor. IsKept table (picture_at pictures) (home_of before) actor (view_of before)) actors → TriesAt table pictures index actors before news after came_to → is_err came_to ≡ false
       → All (λ actor. IsKept table (picture_at pictures) (home_of after) actor (view_of after)) news
-  kept_unless table pictures place actors news before after (Err e) kept tries found = absurd (false≢true (sym found))
-  kept_unless table pictures place actors news before after (Ok came_to) kept tries found = still_kept table (picture_at pictures) place actors news before after came_to kept tries
+  kept_unless table pictures index actors news before after (Err e) kept tries found = absurd (false≢true (sym found))
+  kept_unless table pictures index actors news before after (Ok came_to) kept tries found = still_kept table (picture_at pictures) index actors news before after came_to kept tries
 
   -- an actor set is one after a try
-  pub is_actor_set_after : (table : TableId) (pictures : List Picture) (place : ℕ) (actors news : List (Actor B)) (before after : PlainOf B) (came_to : Result Stepped NoMemory) (is_spent spent : Bool) → is_spent ≡ false → spent ≡ is_err came_to
+  pub is_actor_set_after : (table : TableId) (pictures : List Picture) (index : ℕ) (actors news : List (Actor B)) (before after : PlainOf B) (came_to : Result Stepped NoMemory) (is_spent spent : Bool) → is_spent ≡ false → spent ≡ is_err came_to
       → IsActorSet table (record { pictures = pictures; actors = actors; desk = before; is_spent = is_spent }) → scripts_of news ≡ scripts_of actors → home_of after ≡ home_of before
-      → TriesAt table pictures place actors before news after came_to → IsActorSet table (record { pictures = pictures; actors = news; desk = after; is_spent = spent })
-  is_actor_set_after table pictures place actors news before after came_to is_spent spent unspent found is scripts home tries = record {
+      → TriesAt table pictures index actors before news after came_to → IsActorSet table (record { pictures = pictures; actors = news; desk = after; is_spent = spent })
+  is_actor_set_after table pictures index actors news before after came_to is_spent spent unspent found is scripts home tries = record {
     rising = subst (λ (ss : List ActorScript). IsStrictlyIncreasing (numbers_of ss)) (sym scripts) is.rising;
     numbered = subst (λ (ss : List ActorScript). All (λ (script : ActorScript). 1 ≤ script.number) ss) (sym scripts) is.numbered;
     plays = subst (λ (ss : List ActorScript). All (MayPlay (home_of after) pictures) ss) (sym scripts) (subst (λ (h : DeskHome). All (MayPlay h pictures) (scripts_of actors)) (sym home) is.plays);
-    kept = λ unspent_now. kept_unless table pictures place actors news before after came_to (is.kept unspent) tries (sym found ∙ unspent_now);
+    kept = λ unspent_now. kept_unless table pictures index actors news before after came_to (is.kept unspent) tries (sym found ∙ unspent_now);
   }
 
   -- actors that were lent as a slice and came back
@@ -195,8 +195,8 @@ module _ {B : Type 0} where
       take_front (x ∷ xs) ys = ap (λ (zs : List (Actor B)). x ∷ zs) (take_front xs ys)
 
   -- what a try of the actor set comes to
-  pub whole_tries : (table : TableId) (place : ℕ) (actor_set : ActorSetOf B) (pictures : List Picture) (actors news written : List (Actor B)) (before after : PlainOf B) (is_spent : Bool) (came_to : Result Stepped NoMemory)
-      → record { pictures = pictures; actors = actors; desk = before; is_spent = is_spent } ≡ actor_set → written ≡ news → TriesAt table pictures place actors before news after came_to → TriesAt table actor_set.pictures place actor_set.actors actor_set.desk written after came_to
-  whole_tries table place actor_set pictures actors news written before after is_spent came_to is same tries =
-      subst (λ (x : ActorSetOf B). TriesAt table x.pictures place x.actors x.desk written after came_to) is
-      (subst (λ (xs : List (Actor B)). TriesAt table pictures place actors before xs after came_to) (sym same) tries)
+  pub whole_tries : (table : TableId) (index : ℕ) (actor_set : ActorSetOf B) (pictures : List Picture) (actors news written : List (Actor B)) (before after : PlainOf B) (is_spent : Bool) (came_to : Result Stepped NoMemory)
+      → record { pictures = pictures; actors = actors; desk = before; is_spent = is_spent } ≡ actor_set → written ≡ news → TriesAt table pictures index actors before news after came_to → TriesAt table actor_set.pictures index actor_set.actors actor_set.desk written after came_to
+  whole_tries table index actor_set pictures actors news written before after is_spent came_to is same tries =
+      subst (λ (x : ActorSetOf B). TriesAt table x.pictures index x.actors x.desk written after came_to) is
+      (subst (λ (xs : List (Actor B)). TriesAt table pictures index actors before xs after came_to) (sym same) tries)

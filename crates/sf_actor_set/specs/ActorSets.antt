@@ -55,19 +55,19 @@ module _ {B : Type 0} where
     pub plays : All (MayPlay (home_of desk) pictures) (scripts_of actors)
     pub kept : All (λ actor. IsKept table (picture_at pictures) (home_of desk) actor (view_of desk)) actors
 
-  module _ (table : TableId) (pictures : ℕ → Picture) (place : ℕ) where
-    -- A try of the actor at a place: it does what its script says, with the tokens in its bindings, and every other one is as before;
+  module _ (table : TableId) (pictures : ℕ → Picture) (index : ℕ) where
+    -- A try of the actor at an index: it does what its script says, with the tokens in its bindings, and every other one is as before;
     -- all keep what they keep.
     pub record StepsAt (was : List (Actor B)) (olds : List (ActorOf B)) (before : PlainOf B) (actors : List (Actor B)) (after : PlainOf B) (stepped : Stepped) : Type 0 where
       pub old : ActorOf B
       pub new : ActorOf B
-      pub here : slice_get olds place ≡ Some old
+      pub here : slice_get olds index ≡ Some old
       pub tries : Tries pictures (home_of before) old (view_of before) new (view_of after) stepped
-      pub keep : KeepAs table pictures (home_of after) (view_of after) actors (slice_set olds place new)
+      pub keep : KeepAs table pictures (home_of after) (view_of after) actors (slice_set olds index new)
       pub was_here : Actor B
       pub now_here : Actor B
-      pub was_at : slice_get was place ≡ Some was_here
-      pub now_at : slice_get actors place ≡ Some now_here
+      pub was_at : slice_get was index ≡ Some was_here
+      pub now_at : slice_get actors index ≡ Some now_here
       pub acts : (next : Step) → next_step old ≡ Some next
           → Acts pictures (home_of before) next (length old.trace + 1) was_here.bindings (view_of before) now_here.bindings (view_of after)
 

@@ -1,3 +1,5 @@
+//! The actors of a scene over one desk: a player tries one of them at a time here, and makes the
+//! calls of the compositor over the same desk.
 ghost use Rattle.std.specs.Prelude.{◌≡◌, ◌<◌, List, length, IfOk};
 ghost use Rattle.sf_actor_steps.specs.sf_actor.Plain.{home_of, view_of};
 ghost use Rattle.sf_actor_steps.specs.sf_actor.Scripts.{picture_at};
@@ -6,17 +8,12 @@ ghost use Rattle.sf_actor_set.specs.ActorSets.{KeepAs, MayStep, StepsAt, scripts
 
 use crate::compositing::{legal_each, owns_at, release_at, see_at, take_at, vsync_at};
 use crate::open::{open_actors, open_queues};
-use sf_actor_steps::Actor;
-use sf_actor_steps::sf_actor::{Desk, PlainDesk, Stepped};
-use sf_actor_steps::sf_script_scene::{ActorScript, QueueDecl};
-use sf_actor_steps::sf_surface::ReadLease;
-use sf_actor_steps::sf_times::Timelines;
-use sf_actor_steps::sf_turns::{Stock, TableName, TurnSeat};
+use sf_actor_steps::{
+    Actor, ActorScript, Desk, PlainDesk, QueueDecl, ReadLease, Stepped, Stock, TableName,
+    Timelines, TurnSeat,
+};
 use sf_base::{Items, NoMemory, Seen};
-use sf_commit::sf_picture::{Painted, Picture};
-use sf_commit::sf_token::{Arrivals, Arrived};
-use sf_commit::sf_txn::Lease;
-use sf_commit::{Handler, Release, Vsync};
+use sf_commit::{Arrivals, Arrived, Handler, Lease, Painted, Picture, Release, Vsync};
 use std::alloc::Global;
 use std::marker::Model;
 
@@ -39,21 +36,21 @@ impl<B: TableName> Model for ActorSet<B> {
     ghost invariant = { λ c. IsActorSet B.table (record { pictures = c.pictures; actors = c.actors.items; desk = c.desk; is_spent = c.is_spent }) };
 }
 
-/// Tries the next step of the actor at a place.
+/// Tries the next step of the actor at an index.
 fn try_at<B: TableName>(
     actors: &mut [Actor<B>],
     desk: &mut PlainDesk<B>,
     pictures: &[Picture],
-    place: usize,
+    index: usize,
 ) -> Result<Stepped, NoMemory>
-    requires there { place < length actors.old }
+    requires there { index < length actors.old }
     requires may { MayStep B.table pictures.now actors.old desk.old }
     ensures steps { (ofs : List (ActorOf B)) → KeepAs B.table (picture_at pictures.now) (home_of desk.old) (view_of desk.old) actors.old ofs
-        → IfOk result (StepsAt B.table (picture_at pictures.now) place actors.old ofs desk.old actors.new desk.new) }
+        → IfOk result (StepsAt B.table (picture_at pictures.now) index actors.old ofs desk.old actors.new desk.new) }
     ensures scripts { scripts_of actors.new ≡ scripts_of actors.old }
     ensures home { home_of desk.new ≡ home_of desk.old }
 {
-    actors[place].try_step(desk, pictures)
+    actors[index].try_step(desk, pictures)
 }
 
 impl<B: TableName> ActorSet<B> {
@@ -150,22 +147,22 @@ impl<B: TableName> ActorSet<B> {
         &self.desk
     }
 
-    /// The place of the actor of this number, from 0.
-    pub fn place_of(&self, number: u32) -> Option<usize>
+    /// The index of the actor of this number, from 0.
+    pub fn index_of(&self, number: u32) -> Option<usize>
         ensures first { result ≡ position (λ (actor : ActorIn B). number_of actor == number) self.now.actors }
-        ensures there { IfSome result (λ place. place < length self.now.actors) }
+        ensures there { IfSome result (λ index. index < length self.now.actors) }
     {
         self.actors
             .iter()
             .position(|actor| actor.number() == number)
     }
 
-    /// Tries the next step of the actor at a place, from 0. An actor set that found no memory does no
+    /// Tries the next step of the actor at an index, from 0. An actor set that found no memory does no
     /// more steps.
-    pub fn try_step(&mut self, place: usize) -> Result<Stepped, NoMemory>
-        requires there { place < length self.old.actors }
+    pub fn try_step(&mut self, index: usize) -> Result<Stepped, NoMemory>
+        requires there { index < length self.old.actors }
         ensures steps { (ofs : List (ActorOf B)) → KeepAs B.table (picture_at self.old.pictures) (home_of self.old.desk) (view_of self.old.desk) self.old.actors ofs
-            → IfOk result (StepsAt B.table (picture_at self.old.pictures) place self.old.actors ofs self.old.desk self.new.actors self.new.desk) }
+            → IfOk result (StepsAt B.table (picture_at self.old.pictures) index self.old.actors ofs self.old.desk self.new.actors self.new.desk) }
         ensures same { IsSameActorSet self.old self.new }
         ensures many { length self.new.actors ≡ length self.old.actors }
         ensures ok { IfOk result (λ _. self.new.is_spent ≡ false) }
@@ -179,7 +176,7 @@ impl<B: TableName> ActorSet<B> {
             &mut self.actors,
             &mut self.desk,
             self.pictures.as_slice(),
-            place,
+            index,
         );
         self.is_spent = tried.is_err();
         tried

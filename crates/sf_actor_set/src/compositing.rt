@@ -1,10 +1,9 @@
 //! The calls of a compositor that shares the desk of one thread with the actors. It calls as number
 //! 0, which no actor has, so that every actor keeps what it keeps.
-ghost use Rattle.std.specs.Prelude.{◌≡◌, false, true, is_ok, IfErr, IfOk, IsErr, None, OnErr};
+ghost use Rattle.std.specs.Prelude.{◌≡◌, false, true, IfErr, IfOk, IsErr, OnErr};
 ghost use Rattle.sf_actor_steps.specs.sf_actor.Desks.{IsAsBefore, MadeCall, has_queue};
 ghost use Rattle.sf_actor_steps.specs.sf_actor.Plain.{home_of, taken_in, view_of};
 ghost use Rattle.sf_actor_steps.specs.sf_actor.Tries.{Sees};
-ghost use Rattle.sf_commit.specs.sf_calls.Calling.{IfFaultNotYet};
 ghost use Rattle.sf_actor_set.specs.Compositing.{GoesOnDesk, SeatGoesOn, Takes};
 ghost use Rattle.sf_commit.specs.Handlers.{Decides, Stops, last_of};
 ghost use Rattle.std.specs.List.{All};
@@ -16,15 +15,12 @@ ghost use Rattle.sf_actor_steps.specs.sf_surface.declared.call.QReply.{QReply as
 ghost use Rattle.sf_commit.specs.sf_token.Arrivals.{sent};
 ghost use Rattle.sf_commit.specs.sf_token.Pending.{IsRisingFrom};
 
-use sf_actor_steps::sf_actor::{Desk, PlainDesk};
-use sf_actor_steps::sf_surface::{QCall, QReply, QueueObject, ReadLease};
-use sf_actor_steps::sf_turns::{TableName, TurnSeat};
+use sf_actor_steps::{Desk, PlainDesk, QCall, QueueObject, ReadLease, TableName, TurnSeat, settle};
 use sf_base::{ActorId, NoMemory, Seen};
-use sf_commit::sf_calls::{CallFault, Object, Outcome};
-use sf_commit::sf_picture::Painted;
-use sf_commit::sf_token::{Arrivals, ArriveCall, ArriveReply, Arrived, Batch};
-use sf_commit::sf_txn::Lease;
-use sf_commit::{Handler, Release, Vsync};
+use sf_commit::{
+    Arrivals, ArriveCall, ArriveReply, Arrived, Batch, Handler, Lease, Object, Outcome, Painted,
+    Release, Vsync,
+};
 use std::marker::Brand;
 
 /// The compositor's number as a caller.
@@ -122,44 +118,6 @@ pub fn vsync_at<B: TableName>(
     ensures goes { GoesOnDesk (taken_in desk.old.arrivals) desk.old desk.new }
 {
     vsync_through(&mut desk.turns, handler, arrived, seen, expected)
-}
-
-/// Lets a reply go that ends no drawing, with what it gives.
-fn let_go<B: TableName>(reply: QReply<B>)
-    requires { reply.ends ≡ None }
-{
-    let QReply {
-        status: _status,
-        values: _values,
-        gives,
-        ends,
-        spare: _spare,
-    } = reply;
-    drop(gives);
-    match ends {
-        None => {}
-        Some(_ending) => unreachable!(),
-    }
-}
-
-/// Whether a call that gives nothing and never waits was made. Its reply is let go, and so is what
-/// comes back for want of memory.
-fn settle<B: TableName>(outcome: Result<QReply<B>, CallFault<QCall<B>>>) -> Result<(), NoMemory>
-    requires ends { IfOk outcome (λ reply. reply.ends ≡ None) }
-    requires never { IfFaultNotYet outcome (λ _. ⊥) }
-    ensures { is_ok result ≡ is_ok outcome }
-{
-    match outcome {
-        Ok(reply) => {
-            let_go(reply);
-            Ok(())
-        }
-        Err(CallFault::NotYet(_)) => unreachable!(),
-        Err(CallFault::NoMemory(call)) => {
-            drop(call);
-            Err(NoMemory)
-        }
-    }
 }
 
 /// Gives a frame back to its queue, as the compositor and for a vsync. A frame that the queue

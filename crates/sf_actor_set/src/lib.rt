@@ -10,6 +10,5 @@ mod permits;
 
 pub use actor_set::ActorSet;
 pub use permits::permits_for;
-pub use sf_actor_steps;
-pub use sf_actor_steps::{sf_surface, sf_turns};
-pub use sf_commit::sf_txn;
+pub use sf_actor_steps::{Actor, ReadLease, TableName};
+pub use sf_commit::Lease;

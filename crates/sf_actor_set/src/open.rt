@@ -1,3 +1,5 @@
+//! How a scene's queues and actors are begun, by rising number, each actor with its share of the
+//! permits.
 ghost use Rattle.std.specs.Prelude.{◌≡◌, ◌≤◌, length, map, take, drop, All, IfOk};
 ghost use Rattle.std.specs.List.{AllZip};
 ghost use Rattle.sf_actor_steps.specs.sf_script_scene.Ranges.{IsQueue};
@@ -9,12 +11,9 @@ ghost use Rattle.sf_actor_set.specs.Opening.{IsSortedFrom, OpensActors, OpensQue
 ghost use Rattle.sf_actor_set.specs.Scripts.{permits_of};
 
 use crate::permits::dequeues;
-use sf_actor_steps::Actor;
-use sf_actor_steps::sf_script_scene::{ActorScript, QueueDecl};
-use sf_actor_steps::sf_surface::QueueObject;
-use sf_actor_steps::sf_turns::{Stock, TableName};
+use sf_actor_steps::{Actor, ActorScript, QueueDecl, QueueObject, Stock, TableName};
 use sf_base::{NoMemory, QueueId};
-use sf_commit::sf_picture::Painted;
+use sf_commit::Painted;
 use std::alloc::Global;
 
 /// The declared queues by rising number.

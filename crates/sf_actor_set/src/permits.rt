@@ -1,8 +1,10 @@
+//! How many permits to make a buffer the actors of a scene need: `sf_app` opens the table of turns
+//! by this.
 ghost use Rattle.std.specs.Prelude.{◌≡◌, ◌<◌, MatchOption};
 ghost use Rattle.sf_actor_steps.specs.sf_actor.Tries.{dequeues_in, is_dequeue};
 ghost use Rattle.sf_actor_set.specs.Scripts.{permits_of};
 
-use sf_actor_steps::sf_script_scene::{ActorScript, Step};
+use sf_actor_steps::{ActorScript, Step};
 
 /// Whether a step needs the permit to open a buffer.
 fn is_dequeue(step: &Step) -> bool

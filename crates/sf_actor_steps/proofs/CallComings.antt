@@ -23,7 +23,7 @@ use Rattle.sf_actor.specs.declared.holding.Holding.{Holding}
 use Rattle.sf_actor.specs.declared.tried.Reply.{Reply}
 use Rattle.sf_actor.specs.Desks.{ChangesTimes, DeskHome, DeskView, MadeCall, has_queue, known_of}
 use Rattle.sf_actor.specs.Known.{GoesOn, ShareGoesOn, share_of}
-use Rattle.sf_actor.specs.Parts.{PartsOf, queue_held}
+use Rattle.sf_actor.specs.Holdings.{HoldingsOf, queue_held}
 use Rattle.sf_actor.specs.Rights.{EndsIn, Turn, issued_turn}
 use Rattle.sf_actor.specs.Steps.{was_done}
 use Rattle.sf_actor.specs.Tests.{bad_value}
@@ -40,7 +40,7 @@ use Rattle.sf_actor.proofs.NameChanges.{with_held as parts_with}
 use Rattle.sf_actor.proofs.ReplyRecords.{Tells}
 use Rattle.sf_actor_steps.specs.Actors.{parts_of}
 use Rattle.sf_actor_steps.specs.Calling.{Ends, TriesCall, received, with_held}
-use Rattle.sf_actor_steps.specs.Coming.{Comes, IsReady, reply_with}
+use Rattle.sf_actor_steps.specs.inner.Coming.{Comes, IsReady, reply_with}
 use Rattle.sf_actor_steps.specs.Leaving.{LooksFor}
 use Rattle.sf_actor_steps.specs.declared.asking.Asking.{Asking}
 use Rattle.sf_actor_steps.specs.declared.bindings.Bindings.{Bindings}
@@ -75,7 +75,7 @@ module _ {B : Type 0} where
 
   -- the bindings hold what the actor has
   pub after_again : (actor : ActorOf B) (before : Bindings B) (name : ℕ) (held : Option (Holding B)) → actor.parts ≡ parts_of before → parts_of (with_held (with_held before name None) name held) ≡ parts_with actor.parts name held actor.parts.stock
-  after_again actor before name held same = parts_again before name held ∙ ap (λ (p : PartsOf B). parts_with p name held p.stock) (sym same)
+  after_again actor before name held same = parts_again before name held ∙ ap (λ (p : HoldingsOf B). parts_with p name held p.stock) (sym same)
 
   pub after_back : (actor : ActorOf B) (before : Bindings B) (name : ℕ) (held : Holding B) → actor.parts ≡ parts_of before → get_or before.names name None ≡ Some held → parts_of (with_held (with_held before name None) name (Some held)) ≡ actor.parts
   after_back actor before name held same there = parts_back before name held there ∙ sym same
@@ -128,27 +128,27 @@ module _ {B : Type 0} where
   none_left reply old new none is = subst (λ (ends : Option EndingOf). Ends ends old new) none is
 
   -- a step that ends no turn
-  pub none_ended : (parts : PartsOf B) (s : Step) (told : PlainReply) → turn_ended parts s ≡ [] → ended_by parts (called s told) ≡ []
+  pub none_ended : (parts : HoldingsOf B) (s : Step) (told : PlainReply) → turn_ended parts s ≡ [] → ended_by parts (called s told) ≡ []
   none_ended parts s told none = elim (cases_Bool (was_done (answered.Called told))) [
     | inl met ↦ rw met none
     | inr unmet ↦ rw unmet refl
   ]
 
   -- the queues of what the bindings have stay there where a name holds something else, whose queue is there
-  pub there_with : (home : DeskHome) (parts : PartsOf B) (name : ℕ) (held : Option (Holding B)) (stock : List ℕ) → name < length parts.names → AreThere home parts → ((now : Holding B) → held ≡ Some now → has_queue home (queue_held now).0 ≡ true) → AreThere home (parts_with parts name held stock)
+  pub there_with : (home : DeskHome) (parts : HoldingsOf B) (name : ℕ) (held : Option (Holding B)) (stock : List ℕ) → name < length parts.names → AreThere home parts → ((now : Holding B) → held ≡ Some now → has_queue home (queue_held now).0 ≡ true) → AreThere home (parts_with parts name held stock)
   there_with home parts name held stock low there new = record {
     names = λ other now holds. held_case parts name held stock other now low holds (λ same is. new now is) (λ apart was. there.names other now was);
     frames = there.frames;
   }
 
-  pub there_filled : (home : DeskHome) (parts : PartsOf B) (name : ℕ) (now : Holding B) (stock : List ℕ) → name < length parts.names → AreThere home parts → has_queue home (queue_held now).0 ≡ true → AreThere home (parts_with parts name (Some now) stock)
+  pub there_filled : (home : DeskHome) (parts : HoldingsOf B) (name : ℕ) (now : Holding B) (stock : List ℕ) → name < length parts.names → AreThere home parts → has_queue home (queue_held now).0 ≡ true → AreThere home (parts_with parts name (Some now) stock)
   there_filled home parts name now stock low there new =
       there_with home parts name (Some now) stock low there (λ held is. subst (λ (h : Holding B). has_queue home (queue_held h).0 ≡ true) (same held is) new)
     where
       same : (held : Holding B) → Some now ≡ Some held → now ≡ held
       same held e = cc
 
-  pub there_moved : (home : DeskHome) (parts : PartsOf B) (from to : ℕ) (now : Holding B) → from < length parts.names → to < length parts.names → AreThere home parts → has_queue home (queue_held now).0 ≡ true → AreThere home (moved_held parts from to now)
+  pub there_moved : (home : DeskHome) (parts : HoldingsOf B) (from to : ℕ) (now : Holding B) → from < length parts.names → to < length parts.names → AreThere home parts → has_queue home (queue_held now).0 ≡ true → AreThere home (moved_held parts from to now)
   there_moved home parts from to now low_from low_to there new =
       there_filled home (parts_with parts from None parts.stock) to now parts.stock (omega (arith, low_to, length-set parts.names from None))
       (there_with home parts from None parts.stock low_from there (λ held is. absurd (none_some held is))) new
@@ -165,22 +165,22 @@ module _ {B : Type 0} where
     pub keeps : ActorKept pictures (stepped actor (called s told) (parts_of after)) (share_of actor.script.number (known_of home new))
     pub there : AreThere home (parts_of after)
 
-  pub came_with : (pictures : ℕ → Picture) (home : DeskHome) (actor : ActorOf B) (s : Step) (after : Bindings B) (new : DeskView B) (reply : QReply B) (told : PlainReply) (parts : PartsOf B) → parts_of after ≡ parts → Tells (past_of actor).holdings s told reply → ended_turn reply.ends ≡ ended_by actor.parts (called s told) → ActorKept pictures (stepped actor (called s told) parts) (share_of actor.script.number (known_of home new)) → AreThere home parts → Came pictures home actor s after new reply
+  pub came_with : (pictures : ℕ → Picture) (home : DeskHome) (actor : ActorOf B) (s : Step) (after : Bindings B) (new : DeskView B) (reply : QReply B) (told : PlainReply) (parts : HoldingsOf B) → parts_of after ≡ parts → Tells (past_of actor).holdings s told reply → ended_turn reply.ends ≡ ended_by actor.parts (called s told) → ActorKept pictures (stepped actor (called s told) parts) (share_of actor.script.number (known_of home new)) → AreThere home parts → Came pictures home actor s after new reply
   came_with pictures home actor s after new reply told parts same tells ended keeps there = record {
     told = told;
     tells = tells;
     ended = ended;
-    keeps = subst (λ (p : PartsOf B). ActorKept pictures (stepped actor (called s told) p) (share_of actor.script.number (known_of home new))) (sym same) keeps;
+    keeps = subst (λ (p : HoldingsOf B). ActorKept pictures (stepped actor (called s told) p) (share_of actor.script.number (known_of home new))) (sym same) keeps;
     there = subst (AreThere home) (sym same) there;
   }
 
   -- the same of what a lemma of the actor says of the call; the queue's answer tells whether the step ends a turn
-  pub ending_came : (pictures : ℕ → Picture) (home : DeskHome) (actor : ActorOf B) (s : Step) (after : Bindings B) (new : DeskView B) (queue : QueueId) (asked : QCall B) (reply : QReply B) (parts : PartsOf B) → ((told : PlainReply) → IsReply queue asked told reply → Tells (past_of actor).holdings s told reply) → ((told : PlainReply) → IsReply queue asked told reply → ended_turn reply.ends ≡ ended_by actor.parts (called s told)) → KeepsWith pictures actor s queue asked reply parts (share_of actor.script.number (known_of home new)) → parts_of after ≡ parts → AreThere home parts → Came pictures home actor s after new reply
+  pub ending_came : (pictures : ℕ → Picture) (home : DeskHome) (actor : ActorOf B) (s : Step) (after : Bindings B) (new : DeskView B) (queue : QueueId) (asked : QCall B) (reply : QReply B) (parts : HoldingsOf B) → ((told : PlainReply) → IsReply queue asked told reply → Tells (past_of actor).holdings s told reply) → ((told : PlainReply) → IsReply queue asked told reply → ended_turn reply.ends ≡ ended_by actor.parts (called s told)) → KeepsWith pictures actor s queue asked reply parts (share_of actor.script.number (known_of home new)) → parts_of after ≡ parts → AreThere home parts → Came pictures home actor s after new reply
   ending_came pictures home actor s after new queue asked reply parts tells ended kept same there =
       came_with pictures home actor s after new reply kept.told parts same (tells kept.told kept.replies) (ended kept.told kept.replies) kept.keeps there
 
   -- and of a call whose reply ends nothing
-  pub kept_came : (pictures : ℕ → Picture) (home : DeskHome) (actor : ActorOf B) (s : Step) (after : Bindings B) (called_view new : DeskView B) (queue : QueueId) (asked : QCall B) (reply : QReply B) (parts : PartsOf B) → ((told : PlainReply) → IsReply queue asked told reply → Tells (past_of actor).holdings s told reply) → turn_ended actor.parts s ≡ [] → reply.ends ≡ None → Ends reply.ends called_view new → KeepsWith pictures actor s queue asked reply parts (share_of actor.script.number (known_of home called_view)) → parts_of after ≡ parts → AreThere home parts → Came pictures home actor s after new reply
+  pub kept_came : (pictures : ℕ → Picture) (home : DeskHome) (actor : ActorOf B) (s : Step) (after : Bindings B) (called_view new : DeskView B) (queue : QueueId) (asked : QCall B) (reply : QReply B) (parts : HoldingsOf B) → ((told : PlainReply) → IsReply queue asked told reply → Tells (past_of actor).holdings s told reply) → turn_ended actor.parts s ≡ [] → reply.ends ≡ None → Ends reply.ends called_view new → KeepsWith pictures actor s queue asked reply parts (share_of actor.script.number (known_of home called_view)) → parts_of after ≡ parts → AreThere home parts → Came pictures home actor s after new reply
   kept_came pictures home actor s after called_view new queue asked reply parts tells unended none ends kept same there =
       ending_came pictures home actor s after new queue asked reply parts tells
       (λ told is. ap ended_turn none ∙ sym (none_ended actor.parts s told unended))
@@ -191,10 +191,10 @@ module _ {B : Type 0} where
   pub call_done : (pictures : ℕ → Picture) (home : DeskHome) (actor : ActorOf B) (s : Step) (after : Bindings B) (old looked called_view new : DeskView B) (queue : ℕ) (asked : ℕ × QCall B) (reply : QReply B) → signal_of s ≡ [] → Looked home old looked → MadeCall home looked called_view actor.script.number queue asked reply → Ends reply.ends called_view new → Came pictures home actor s after new reply → Comes pictures home actor after old new (tried.Called reply.status reply.values)
   call_done pictures home actor s after old looked called_view new queue asked reply quiet look made ends came =
       let by = actor.script.number in
-      let place : ℕ = length actor.trace + 1 in
+      let step_number : ℕ = length actor.trace + 1 in
       let done = called s came.told in
-      let shown : Reply = reply_with by place (number_of reply.status) reply.values in
-      let replied : shown ≡ reply_at by (at_end actor.trace done) = λ i. reply_with by place (came.tells.status i) (came.tells.values i) in
+      let shown : Reply = reply_with by step_number (number_of reply.status) reply.values in
+      let replied : shown ≡ reply_at by (at_end actor.trace done) = λ i. reply_with by step_number (came.tells.status i) (came.tells.values i) in
       own_done pictures home actor after old new done (parts_of after) shown replied
       (record {
         signals =
@@ -228,14 +228,14 @@ module _ {B : Type 0} where
       (call_done pictures home actor s after old looked calls.made_view new asking.queue.0 (length actor.trace + 1, asking.call) reply quiet look calls.made calls.ends came)
 
   -- the call of a step, as it was formed
-  pub formed : (home : DeskHome) (by place : ℕ) (asking as_formed : Asking B) (taken as_taken after : Bindings B) (old new : DeskView B) (came_to : Tried) → taken ≡ as_taken → asking ≡ as_formed → TriesCall home by place asking taken after old new came_to → TriesCall home by place as_formed as_taken after old new came_to
-  formed home by place asking as_formed taken as_taken after old new came_to same_bindings same_call tries =
-      subst (λ (bindings : Bindings B). TriesCall home by place as_formed bindings after old new came_to) same_bindings
-      (subst (λ (a : Asking B). TriesCall home by place a taken after old new came_to) same_call tries)
+  pub formed : (home : DeskHome) (by step_number : ℕ) (asking as_formed : Asking B) (taken as_taken after : Bindings B) (old new : DeskView B) (came_to : Tried) → taken ≡ as_taken → asking ≡ as_formed → TriesCall home by step_number asking taken after old new came_to → TriesCall home by step_number as_formed as_taken after old new came_to
+  formed home by step_number asking as_formed taken as_taken after old new came_to same_bindings same_call tries =
+      subst (λ (bindings : Bindings B). TriesCall home by step_number as_formed bindings after old new came_to) same_bindings
+      (subst (λ (a : Asking B). TriesCall home by step_number a taken after old new came_to) same_call tries)
 
   -- a step has the names of its bindings
   pub names_there : (pictures : ℕ → Picture) (home : DeskHome) (actor : ActorOf B) (bindings : Bindings B) (view : DeskView B) (s : Step) → IsReady pictures home actor bindings view s → length actor.parts.names ≡ 32
-  names_there pictures home actor bindings view s ready = ap (λ (parts : PartsOf B). length parts.names) ready.parts ∙ ready.names
+  names_there pictures home actor bindings view s ready = ap (λ (parts : HoldingsOf B). length parts.names) ready.parts ∙ ready.names
 
   pub held_there : (pictures : ℕ → Picture) (home : DeskHome) (actor : ActorOf B) (bindings : Bindings B) (view : DeskView B) (s : Step) (name : ℕ) (held : Holding B) → IsReady pictures home actor bindings view s → get_or bindings.names name None ≡ Some held → held_in actor.parts name ≡ Some held
-  held_there pictures home actor bindings view s name held ready there = ap (λ (parts : PartsOf B). held_in parts name) ready.parts ∙ there
+  held_there pictures home actor bindings view s name held ready there = ap (λ (parts : HoldingsOf B). held_in parts name) ready.parts ∙ there

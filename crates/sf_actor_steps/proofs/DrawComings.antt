@@ -23,7 +23,7 @@ use Rattle.sf_actor.specs.declared.holding.Holding.TheVariants as holding
 use Rattle.sf_actor.specs.Desks.{ChangesTimes, ChangesTurns, DeskHome, DeskView, has_queue, known_of, looks}
 use Rattle.sf_actor.specs.Known.{GoesOn, share_of}
 use Rattle.sf_actor.specs.Names.{Lent}
-use Rattle.sf_actor.specs.Parts.{PartsOf, drawn_picture, queue_held, token_of, turn_held}
+use Rattle.sf_actor.specs.Holdings.{HoldingsOf, drawn_picture, queue_held, token_of, turn_held}
 use Rattle.sf_actor.specs.Points.{undrawn_fence, waited_fence}
 use Rattle.sf_actor.specs.Tests.{refusal_of}
 use Rattle.sf_actor.specs.Tries.{ActorKept, ActorOf, AreThere, DrawsHeld, DrawsIn, EntersInTurn, EarlierTurn, Open, Sees, held_in, owed_turn, past_of}
@@ -36,7 +36,7 @@ use Rattle.sf_actor.proofs.NameChanges.{held_case}
 use Rattle.sf_actor.proofs.NameChanges.{with_held as parts_with}
 use Rattle.sf_actor_steps.specs.Actors.{parts_of}
 use Rattle.sf_actor_steps.specs.Calling.{with_held}
-use Rattle.sf_actor_steps.specs.Coming.{Comes, IsReady, LeftWith, reply_with}
+use Rattle.sf_actor_steps.specs.inner.Coming.{Comes, IsReady, LeftWith, reply_with}
 use Rattle.sf_actor_steps.specs.Drawing.{Draws, TriesDraw, filled}
 use Rattle.sf_actor_steps.specs.declared.bindings.Bindings.{Bindings}
 use Rattle.sf_actor_steps.specs.declared.tried.Tried.{Tried}
@@ -53,7 +53,7 @@ enters_left (work.Drawn inside pixels) fence seen old new enters = ap (λ (turns
 
 module _ {B : Type 0} where
   -- the desk has the queue of what a name holds then
-  pub there_with : (home : DeskHome) (parts : PartsOf B) (name : ℕ) (held : Option (Holding B)) (stock : List ℕ) → name < length parts.names → AreThere home parts → ((now : Holding B) → held ≡ Some now → has_queue home (queue_held now).0 ≡ true) → AreThere home (parts_with parts name held stock)
+  pub there_with : (home : DeskHome) (parts : HoldingsOf B) (name : ℕ) (held : Option (Holding B)) (stock : List ℕ) → name < length parts.names → AreThere home parts → ((now : Holding B) → held ≡ Some now → has_queue home (queue_held now).0 ≡ true) → AreThere home (parts_with parts name held stock)
   there_with home parts name held stock low there fits = record {
     names = λ other now is_held. held_case parts name held stock other now low is_held (λ same here. fits now here) (λ apart was. there.names other now was);
     frames = there.frames;
@@ -109,8 +109,8 @@ module _ {B : Type 0} where
   lease_comes pictures home actor before after old looked new name p seen lease ready unrefused drew there enters left =
       let by = actor.script.number in
       let now : Holding B = holding.Lends (drawn_with lease (pictures p)) in
-      let here : held_in actor.parts name ≡ Some (holding.Lends lease) = ap (λ (parts : PartsOf B). held_in parts name) ready.parts ∙ there in
-      let low : name < length actor.parts.names = let below = ready.playable.ranges.below in let names = ready.names in let same = ap (λ (parts : PartsOf B). length parts.names) ready.parts in omega (arith, below, names, same) in
+      let here : held_in actor.parts name ≡ Some (holding.Lends lease) = ap (λ (parts : HoldingsOf B). held_in parts name) ready.parts ∙ there in
+      let low : name < length actor.parts.names = let below = ready.playable.ranges.below in let names = ready.names in let same = ap (λ (parts : HoldingsOf B). length parts.names) ready.parts in omega (arith, below, names, same) in
       let parts = parts_with actor.parts name (Some now) actor.parts.stock in
       own_done pictures home actor after old new (drawing name p) parts (reply_with by (length actor.trace + 1) 0 []) refl
       (record {
@@ -129,7 +129,7 @@ module _ {B : Type 0} where
         has =
             ap parts_of left
             ∙ filled_parts before name (Some now)
-            ∙ ap (λ (of : PartsOf B). parts_with of name (Some now) of.stock) (sym ready.parts);
+            ∙ ap (λ (of : HoldingsOf B). parts_with of name (Some now) of.stock) (sym ready.parts);
         kept = draw_lease_keeps pictures actor name p lease home looked new seen ready.is_next (look_keeps pictures actor home old looked seen drew.times drew.sees ready.keeps.kept) unrefused ready.pictured here low
             (λ shown. seen_reached home old looked seen lease.fence drew.sees shown) drew.turns enters;
         there = there_with home actor.parts name (Some now) actor.parts.stock low ready.keeps.there
@@ -142,8 +142,8 @@ module _ {B : Type 0} where
   owing_comes : (pictures : ℕ → Picture) (home : DeskHome) (actor : ActorOf B) (before after : Bindings B) (old looked new : DeskView B) (name p : ℕ) (seen : Seen) (owing : OwingOf) (held : Held) → IsReady pictures home actor before old (step.Draw name p) → refusal_of pictures (past_of actor).holdings (step.Draw name p) ≡ None → Drew home old looked new seen → get_or before.names name None ≡ Some (holding.Owes owing held) → IsSignalled owing.fence seen → Passes owing.turn.buffer owing.turn.number looked.turns new.turns → after ≡ filled (with_held before name None) name None → Comes pictures home actor after old new (tried.Own 0)
   owing_comes pictures home actor before after old looked new name p seen owing held ready unrefused drew there signalled passes left =
       let by = actor.script.number in
-      let here : held_in actor.parts name ≡ Some (holding.Owes owing held) = ap (λ (parts : PartsOf B). held_in parts name) ready.parts ∙ there in
-      let low : name < length actor.parts.names = let below = ready.playable.ranges.below in let names = ready.names in let same = ap (λ (parts : PartsOf B). length parts.names) ready.parts in omega (arith, below, names, same) in
+      let here : held_in actor.parts name ≡ Some (holding.Owes owing held) = ap (λ (parts : HoldingsOf B). held_in parts name) ready.parts ∙ there in
+      let low : name < length actor.parts.names = let below = ready.playable.ranges.below in let names = ready.names in let same = ap (λ (parts : HoldingsOf B). length parts.names) ready.parts in omega (arith, below, names, same) in
       let inside : DeskView B = record looked { turns = passes.0 } in
       let turns = same_turns home old looked new seen drew in
       let parts = parts_with actor.parts name None actor.parts.stock in
@@ -167,7 +167,7 @@ module _ {B : Type 0} where
         has =
             ap parts_of left
             ∙ filled_parts before name None
-            ∙ ap (λ (of : PartsOf B). parts_with of name None of.stock) (sym ready.parts);
+            ∙ ap (λ (of : HoldingsOf B). parts_with of name None of.stock) (sym ready.parts);
         kept = draw_owing_keeps pictures actor name p owing held home looked new ready.is_next (look_keeps pictures actor home old looked seen drew.times drew.sees ready.keeps.kept) unrefused here low
             (seen_reached home old looked seen owing.fence drew.sees signalled) drew.turns passes;
         there = there_with home actor.parts name None actor.parts.stock low ready.keeps.there (λ now e. absurd (none_some now e));
@@ -179,7 +179,7 @@ module _ {B : Type 0} where
   -- a draw that is not done: its fence is open, or an earlier turn has not left
   not_drawn : (pictures : ℕ → Picture) (home : DeskHome) (actor : ActorOf B) (before after : Bindings B) (old looked new : DeskView B) (name p : ℕ) (seen : Seen) (held : Holding B) (fence : Fence) → IsReady pictures home actor before old (step.Draw name p) → refusal_of pictures (past_of actor).holdings (step.Draw name p) ≡ None → Drew home old looked new seen → get_or before.names name None ≡ Some held → undrawn_fence (Some (token_of held)) ≡ Some fence → MustWait fence seen (turn_held held).0 (turn_held held).1 looked.turns new.turns → after ≡ filled (with_held before name None) name (Some held) → LeftWith pictures home actor after old new
   not_drawn pictures home actor before after old looked new name p seen held fence ready unrefused drew there undrawn waits left =
-      let here : held_in actor.parts name ≡ Some held = ap (λ (parts : PartsOf B). held_in parts name) ready.parts ∙ there in
+      let here : held_in actor.parts name ≡ Some held = ap (λ (parts : HoldingsOf B). held_in parts name) ready.parts ∙ there in
       let fenced : waited_fence (past_of actor).holdings (step.Draw name p) ≡ Some fence =
       ap undrawn_fence (names_told pictures actor (share_of actor.script.number (known_of home old)) name ready.keeps.kept ∙ ap (option_map token_of) here) ∙ undrawn in
       let turns = same_turns home old looked new seen drew in

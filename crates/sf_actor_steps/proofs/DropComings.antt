@@ -13,7 +13,7 @@ use Rattle.sf_actor.specs.sf_surface.declared.call.QReply.{QReply}
 use Rattle.sf_actor.specs.declared.holding.Holding.{Holding}
 use Rattle.sf_actor.specs.declared.holding.Holding.TheVariants as holding
 use Rattle.sf_actor.specs.Desks.{DeskHome, DeskView, mark_among}
-use Rattle.sf_actor.specs.Parts.{PartsOf}
+use Rattle.sf_actor.specs.Holdings.{HoldingsOf}
 use Rattle.sf_actor.specs.Scripts.{queue_of}
 use Rattle.sf_actor.specs.Tests.{refusal_of}
 use Rattle.sf_actor.specs.Tries.{ActorOf, AreThere, held_in, past_of}
@@ -23,7 +23,7 @@ use Rattle.sf_actor.proofs.ReplyRecords.{disconnect_tells}
 use Rattle.sf_actor_steps.specs.Acting.{Acts}
 use Rattle.sf_actor_steps.specs.Actors.{parts_of}
 use Rattle.sf_actor_steps.specs.Calling.{received}
-use Rattle.sf_actor_steps.specs.Coming.{Comes, IsReady}
+use Rattle.sf_actor_steps.specs.inner.Coming.{Comes, IsReady}
 use Rattle.sf_actor_steps.specs.Forming.{named}
 use Rattle.sf_actor_steps.specs.Leaving.{let_go_of, was_ok, without_lent}
 use Rattle.sf_actor_steps.specs.declared.asking.Asking.{Asking}
@@ -58,7 +58,7 @@ module _ {B : Type 0} where
   was_there queue (Some (holding.Reads lease)) now e = e
   was_there queue (Some (holding.Frees last loose)) now e = e
 
-  there_without : (home : DeskHome) (parts : PartsOf B) (queue : ℕ) → AreThere home parts → AreThere home (parts_without parts queue)
+  there_without : (home : DeskHome) (parts : HoldingsOf B) (queue : ℕ) → AreThere home parts → AreThere home (parts_without parts queue)
   there_without home parts queue there = record {
     names = λ name now holds. there.names name now (was_there queue (held_in parts name) now (sym (get_or-map (let_go_held queue) parts.names name None) ∙ holds));
     frames = there.frames;
@@ -82,7 +82,7 @@ module _ {B : Type 0} where
             (λ told is. disconnect_tells queue q (past_of actor).holdings told reply is)
             refl (ap (λ (r : QReply B). r.ends) given.0) ends given.1
             (ap (λ (h : Bindings B). parts_of h) (acts.drops ∙ ap left ok ∙ ap (without_lent q) (bindings ∙ ap (received asking.homes before) given.0))
-            ∙ dropped q before ∙ ap (λ (p : PartsOf B). parts_without p q) (sym ready.parts))
+            ∙ dropped q before ∙ ap (λ (p : HoldingsOf B). parts_without p q) (sym ready.parts))
             (there_without home actor.parts q ready.keeps.there)
         | inr refused ↦
             let not_ok : was_ok came_to ≡ false = ap was_ok was ∙ ap (λ (r : QReply B). number_of r.status == 0) refused.0 in

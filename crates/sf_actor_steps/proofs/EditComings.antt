@@ -26,7 +26,7 @@ use Rattle.sf_actor.specs.declared.holding.Holding.TheVariants as holding
 use Rattle.sf_actor.specs.Desks.{DeskHome, DeskView, MadeCall, has_queue, known_of, mark_among}
 use Rattle.sf_actor.specs.Known.{GoesOn, frame_of, plain_txn, share_of}
 use Rattle.sf_actor.specs.Names.{Frame, Holdings, name_in, transaction_in}
-use Rattle.sf_actor.specs.Parts.{PartsOf, token_of}
+use Rattle.sf_actor.specs.Holdings.{HoldingsOf, token_of}
 use Rattle.sf_actor.specs.Scripts.{layer_of, op_of}
 use Rattle.sf_actor.specs.Tests.{refusal_of}
 use Rattle.sf_actor.specs.Tries.{ActorKept, ActorOf, AreThere, contents_in, held_in, past_of}
@@ -45,7 +45,7 @@ use Rattle.sf_actor.proofs.OvertakenReleases.{GivesBack, IsMarked, no_end}
 use Rattle.sf_actor_steps.specs.Acting.{Changes}
 use Rattle.sf_actor_steps.specs.Actors.{parts_of}
 use Rattle.sf_actor_steps.specs.Calling.{Ends}
-use Rattle.sf_actor_steps.specs.Coming.{Comes, IsReady, reply_with}
+use Rattle.sf_actor_steps.specs.inner.Coming.{Comes, IsReady, reply_with}
 use Rattle.sf_actor_steps.specs.Editing.{Edits, Merges, Releases, ReleasesAll, Shows, TriesSend, buffer_with, with_txn}
 use Rattle.sf_actor_steps.specs.declared.bindings.Bindings.{Bindings}
 use Rattle.sf_actor_steps.specs.declared.tried.Tried.{Tried}
@@ -88,7 +88,7 @@ marked_all : (home : DeskHome) (buffers : List (Buffer ReadLeaseOf)) → All (Is
 marked_all home buffers all k d low = marked home _ (all k d low)
 
 module _ {B : Type 0} where
-  there_with_contents : (home : DeskHome) (parts : PartsOf B) (number : ℕ) (txn : Option (Contents ReadLeaseOf)) → number < length parts.transactions → AreThere home parts → ((now : Contents ReadLeaseOf) → txn ≡ Some now → All (IsHere home) now.buffers) → AreThere home (with_contents parts number txn)
+  there_with_contents : (home : DeskHome) (parts : HoldingsOf B) (number : ℕ) (txn : Option (Contents ReadLeaseOf)) → number < length parts.transactions → AreThere home parts → ((now : Contents ReadLeaseOf) → txn ≡ Some now → All (IsHere home) now.buffers) → AreThere home (with_contents parts number txn)
   there_with_contents home parts number txn low there fits = record {
     names = there.names;
     frames = λ other now is_there. contents_case parts number txn other now low is_there (λ here. fits now here) (λ was. there.frames other now was);
@@ -98,11 +98,11 @@ module _ {B : Type 0} where
   number_low : (pictures : ℕ → Picture) (home : DeskHome) (actor : ActorOf B) (bindings : Bindings B) (view : DeskView B) (s : Step) (n : ℕ) → IsReady pictures home actor bindings view s → n ≤ 64 → n < length actor.parts.transactions
   number_low pictures home actor bindings view s n ready high =
       let numbers = ready.numbers in
-      let same = ap (λ (parts : PartsOf B). length parts.transactions) ready.parts in
+      let same = ap (λ (parts : HoldingsOf B). length parts.transactions) ready.parts in
       omega (arith, high, numbers, same)
 
   there_in : (actor : ActorOf B) (bindings : Bindings B) (n : ℕ) (txn : Contents ReadLeaseOf) → actor.parts ≡ parts_of bindings → get_or bindings.transactions n None ≡ Some txn → contents_in actor.parts n ≡ Some txn
-  there_in actor bindings n txn same there = ap (λ (parts : PartsOf B). contents_in parts n) same ∙ there
+  there_in actor bindings n txn same there = ap (λ (parts : HoldingsOf B). contents_in parts n) same ∙ there
 
   -- the parts once a transaction was taken, changed and put back
   edited_parts : (before after : Bindings B) (n : ℕ) (change : Contents ReadLeaseOf → Contents ReadLeaseOf) → (edits : Edits before after n change) → parts_of after ≡ with_contents (parts_of before) n (Some (change edits.edited))
@@ -124,7 +124,7 @@ module _ {B : Type 0} where
         entered = no_draw home actor old old done not;
         refused = no_fence pictures home actor old old done unfenced;
         alone = λ exact other apart. goes_same other (known_of home old);
-        has = has ∙ ap (λ (of : PartsOf B). with_contents of n (Some now)) (sym ready.parts);
+        has = has ∙ ap (λ (of : HoldingsOf B). with_contents of n (Some now)) (sym ready.parts);
         kept = kept;
         there = there_with_contents home actor.parts n (Some now) (number_low pictures home actor before old s n ready high) ready.keeps.there
             (λ other e. subst (λ (txn : Contents ReadLeaseOf). All (IsHere home) txn.buffers) (one other e) here);
@@ -183,7 +183,7 @@ module _ {B : Type 0} where
         entered = no_draw home actor old new done refl;
         refused = no_fence pictures home actor old new done refl;
         alone = λ exact other apart. send_alone other home old new by (length actor.trace + 1) _ arrival exact (λ e. apart (sym e)) sends.made;
-        has = ap parts_of sends.takes.txn_rest ∙ ap (λ (of : PartsOf B). with_contents of n None) (sym ready.parts);
+        has = ap parts_of sends.takes.txn_rest ∙ ap (λ (of : HoldingsOf B). with_contents of n None) (sym ready.parts);
         kept = send_keeps pictures actor n token arrival sends.sent home old new ready.is_next ready.keeps.kept unrefused low there sends.made;
         there = there_with_contents home actor.parts n None low ready.keeps.there (λ now e. absurd (none_some now e));
       })
@@ -195,33 +195,33 @@ module _ {B : Type 0} where
   send_comes pictures home actor before after old new n token tried.NotYet ready unrefused sends = absurd sends
 
   -- frames that are given back
-  release_back : (home : DeskHome) (by place : ℕ) (lease : ReadLeaseOf) (old new : DeskView B) → (release : Releases home by place lease old new) → MadeCall home old new by lease.queue.0 (place, call.Release lease (with_points_of no_points lease.fence)) release.reply
-  release_back home by place lease old new release =
-      let asking : ℕ × QCall B = (place, call.Release lease (with_points_of no_points lease.fence)) in
+  release_back : (home : DeskHome) (by step_number : ℕ) (lease : ReadLeaseOf) (old new : DeskView B) → (release : Releases home by step_number lease old new) → MadeCall home old new by lease.queue.0 (step_number, call.Release lease (with_points_of no_points lease.fence)) release.reply
+  release_back home by step_number lease old new release =
+      let asking : ℕ × QCall B = (step_number, call.Release lease (with_points_of no_points lease.fence)) in
       let c = made_call home old release.released by lease.queue.0 asking release.reply release.made in
       let none = no_end (mark_among home.marks lease.queue.0).queue lease (with_points_of no_points lease.fence) c.told.reply release.reply (answer_told home old release.released by lease.queue.0 asking release.reply release.made) in
       let ended : new ≡ release.released = subst (λ (ends : Option EndingOf). Ends ends release.released new) none release.ends in
       subst (λ (view : DeskView B). MadeCall home old view by lease.queue.0 asking release.reply) (sym ended) release.made
 
-  all_back : (home : DeskHome) (by place : ℕ) (buffers : List (Buffer ReadLeaseOf)) (old new : DeskView B) → ReleasesAll home by place buffers old new → GivesBack home by place (map right_of buffers) old new
-  all_back home by place [] old new releases = releases
-  all_back home by place (buffer ∷ later) old new releases =
+  all_back : (home : DeskHome) (by step_number : ℕ) (buffers : List (Buffer ReadLeaseOf)) (old new : DeskView B) → ReleasesAll home by step_number buffers old new → GivesBack home by step_number (map right_of buffers) old new
+  all_back home by step_number [] old new releases = releases
+  all_back home by step_number (buffer ∷ later) old new releases =
       let release = releases.1 in
-      (release.reply, releases.0, release_back home by place buffer.lease old releases.0 release, all_back home by place later releases.0 new releases.2)
+      (release.reply, releases.0, release_back home by step_number buffer.lease old releases.0 release, all_back home by step_number later releases.0 new releases.2)
 
-  back_same : (home : DeskHome) (by place : ℕ) (leases : List ReadLeaseOf) (old new : DeskView B) → GivesBack home by place leases old new → (new.times ≡ old.times) × (new.turns ≡ old.turns)
-  back_same home by place [] old new gives = (ap (λ (view : DeskView B). view.times) gives, ap (λ (view : DeskView B). view.turns) gives)
-  back_same home by place (lease ∷ later) old new gives =
-      let rest = back_same home by place later gives.1 new gives.3 in
+  back_same : (home : DeskHome) (by step_number : ℕ) (leases : List ReadLeaseOf) (old new : DeskView B) → GivesBack home by step_number leases old new → (new.times ≡ old.times) × (new.turns ≡ old.turns)
+  back_same home by step_number [] old new gives = (ap (λ (view : DeskView B). view.times) gives, ap (λ (view : DeskView B). view.turns) gives)
+  back_same home by step_number (lease ∷ later) old new gives =
+      let rest = back_same home by step_number later gives.1 new gives.3 in
       let same = gives.2.changes.same in
       (rest.0 ∙ ap (λ (view : DeskView B). view.times) same, rest.1 ∙ ap (λ (view : DeskView B). view.turns) same)
 
-  back_alone : (other : ℕ) (home : DeskHome) (by place : ℕ) (leases : List ReadLeaseOf) (old new : DeskView B) → home.is_exact ≡ true → by ≢ other → GivesBack home by place leases old new → GoesOn other (known_of home old) (known_of home new)
-  back_alone other home by place [] old new exact apart gives = subst (λ (view : DeskView B). GoesOn other (known_of home old) (known_of home view)) (sym gives) (goes_same other (known_of home old))
-  back_alone other home by place (lease ∷ later) old new exact apart gives =
+  back_alone : (other : ℕ) (home : DeskHome) (by step_number : ℕ) (leases : List ReadLeaseOf) (old new : DeskView B) → home.is_exact ≡ true → by ≢ other → GivesBack home by step_number leases old new → GoesOn other (known_of home old) (known_of home new)
+  back_alone other home by step_number [] old new exact apart gives = subst (λ (view : DeskView B). GoesOn other (known_of home old) (known_of home view)) (sym gives) (goes_same other (known_of home old))
+  back_alone other home by step_number (lease ∷ later) old new exact apart gives =
       goes_twice other (known_of home old) (known_of home gives.1) (known_of home new)
-      (call_alone other home old gives.1 by lease.queue.0 (place, call.Release lease (with_points_of no_points lease.fence)) gives.0 exact apart gives.2)
-      (back_alone other home by place later gives.1 new exact apart gives.3)
+      (call_alone other home old gives.1 by lease.queue.0 (step_number, call.Release lease (with_points_of no_points lease.fence)) gives.0 exact apart gives.2)
+      (back_alone other home by step_number later gives.1 new exact apart gives.3)
 
   -- a frame that goes into a transaction
   pub show_comes : (pictures : ℕ → Picture) (home : DeskHome) (actor : ActorOf B) (before after : Bindings B) (old new : DeskView B) (n layer i : ℕ) (came_to : Tried) → IsReady pictures home actor before old (step.Buffer n layer i) → refusal_of pictures (past_of actor).holdings (step.Buffer n layer i) ≡ None → (came_to ≡ tried.Own 0) × Shows home actor.script.number (length actor.trace + 1) n layer i before after old new → Comes pictures home actor after old new came_to
@@ -237,10 +237,10 @@ module _ {B : Type 0} where
       let now = set_buffer txn buffer in
       let high = ready.playable.ranges.0.high in
       let low = number_low pictures home actor before old s n ready high in
-      let low_name : i < length actor.parts.names = let below = ready.playable.ranges.2.below in let names = ready.names in let same = ap (λ (parts : PartsOf B). length parts.names) ready.parts in omega (arith, below, names, same) in
-      let held : held_in actor.parts i ≡ Some (holding.Reads lease) = ap (λ (parts : PartsOf B). held_in parts i) ready.parts ∙ shows.takes.held_there in
+      let low_name : i < length actor.parts.names = let below = ready.playable.ranges.2.below in let names = ready.names in let same = ap (λ (parts : HoldingsOf B). length parts.names) ready.parts in omega (arith, below, names, same) in
+      let held : held_in actor.parts i ≡ Some (holding.Reads lease) = ap (λ (parts : HoldingsOf B). held_in parts i) ready.parts ∙ shows.takes.held_there in
       let there : contents_in actor.parts n ≡ Some txn =
-      ap (λ (parts : PartsOf B). contents_in parts n) ready.parts
+      ap (λ (parts : HoldingsOf B). contents_in parts n) ready.parts
       ∙ ap (λ (bindings : Bindings B). get_or bindings.transactions n None) (sym shows.takes.rest)
       ∙ edits.takes.txn_there in
       let named = names_told pictures actor (share_of by (known_of home old)) i ready.keeps.kept ∙ ap (option_map token_of) held in
@@ -260,7 +260,7 @@ module _ {B : Type 0} where
         has =
             edited_parts shows.without_frame after n (λ t. set_buffer t (buffer_with layer lease)) edits
             ∙ ap (λ (bindings : Bindings B). with_contents (parts_of bindings) n (Some now)) shows.takes.rest
-            ∙ ap (λ (of : PartsOf B). parts_with (with_contents of n (Some now)) i None of.stock) (sym ready.parts);
+            ∙ ap (λ (of : HoldingsOf B). parts_with (with_contents of n (Some now)) i None of.stock) (sym ready.parts);
         kept = show_keeps pictures actor n layer i lease txn home old new ready.is_next ready.keeps.kept unrefused there held acquired low low_name (marked_all home txn.buffers frames) gives;
         there = there_with home (with_contents actor.parts n (Some now)) i None actor.parts.stock low_name
             (there_with_contents home actor.parts n (Some now) low ready.keeps.there
@@ -294,7 +294,7 @@ module _ {B : Type 0} where
       let other_told : is_none (transaction_in (past_of actor).holdings m) ≡ false = other_there pictures (past_of actor).holdings n m (some n into told) unrefused in
       let away = apart pictures (past_of actor).holdings n m (some n into told) other_told unrefused in
       let too : contents_in actor.parts m ≡ Some from =
-      ap (λ (parts : PartsOf B). contents_in parts m) ready.parts
+      ap (λ (parts : HoldingsOf B). contents_in parts m) ready.parts
       ∙ sym (get_or-set_other before.transactions n m None None (λ e. away (sym e)))
       ∙ ap (λ (bindings : Bindings B). get_or bindings.transactions m None) (sym merges.takes_into.txn_rest)
       ∙ merges.takes_from.txn_there in
@@ -315,7 +315,7 @@ module _ {B : Type 0} where
         has =
             ap parts_of (merges.put_back ∙ ap (λ (bindings : Bindings B). with_txn (with_txn bindings n (Some now)) m (Some empty)) (merges.takes_from.txn_rest ∙ ap (λ (bindings : Bindings B). with_txn bindings m None) merges.takes_into.txn_rest))
             ∙ ap (λ (transactions : List (Option (Contents ReadLeaseOf))). record (parts_of before) { transactions = transactions }) (both before.transactions n m (Some now) (Some empty) away)
-            ∙ ap (λ (of : PartsOf B). with_contents (with_contents of n (Some now)) m (Some empty)) (sym ready.parts);
+            ∙ ap (λ (of : HoldingsOf B). with_contents (with_contents of n (Some now)) m (Some empty)) (sym ready.parts);
         kept = merge_keeps pictures actor n m into from home old new ready.is_next ready.keeps.kept unrefused there too low low_other (marked_all home into.buffers frames) (marked_all home from.buffers frames_too) gives;
         there = there_with_contents home (with_contents actor.parts n (Some now)) m (Some empty) longer
             (there_with_contents home actor.parts n (Some now) low ready.keeps.there

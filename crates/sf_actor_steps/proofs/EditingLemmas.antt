@@ -61,15 +61,15 @@ All-replaced P buffers (buffer ∷ later) all all_later =
 
 module _ {B : Type 0} where
   -- the rest of the frames is given back after the first ones were
-  pub record ReleasesRest (home : DeskHome) (by place : ℕ) (all rest : List (Buffer ReadLeaseOf)) (old now : DeskView B) : Type 0 where
+  pub record ReleasesRest (home : DeskHome) (by step_number : ℕ) (all rest : List (Buffer ReadLeaseOf)) (old now : DeskView B) : Type 0 where
     pub there : All (IsThere home) rest
-    pub goes_on : (new : DeskView B) → ReleasesAll home by place rest now new → ReleasesAll home by place all old new
+    pub goes_on : (new : DeskView B) → ReleasesAll home by step_number rest now new → ReleasesAll home by step_number all old new
 
-  pub released_none : (home : DeskHome) (by place : ℕ) (all : List (Buffer ReadLeaseOf)) (old : DeskView B) → All (IsThere home) all → ReleasesRest home by place all all old old
-  released_none home by place all old there = record { there = there; goes_on = λ new released. released }
+  pub released_none : (home : DeskHome) (by step_number : ℕ) (all : List (Buffer ReadLeaseOf)) (old : DeskView B) → All (IsThere home) all → ReleasesRest home by step_number all all old old
+  released_none home by step_number all old there = record { there = there; goes_on = λ new released. released }
 
-  pub released_one : (home : DeskHome) (by place : ℕ) (all rest : List (Buffer ReadLeaseOf)) (buffer : Buffer ReadLeaseOf) (old now next : DeskView B) → ReleasesRest home by place all (buffer ∷ rest) old now → Releases home by place buffer.lease now next → ReleasesRest home by place all rest old next
-  released_one home by place all rest buffer old now next is released = record {
+  pub released_one : (home : DeskHome) (by step_number : ℕ) (all rest : List (Buffer ReadLeaseOf)) (buffer : Buffer ReadLeaseOf) (old now next : DeskView B) → ReleasesRest home by step_number all (buffer ∷ rest) old now → Releases home by step_number buffer.lease now next → ReleasesRest home by step_number all rest old next
+  released_one home by step_number all rest buffer old now next is released = record {
     there = All-tail (IsThere home) buffer rest is.there;
     goes_on = λ new later. is.goes_on new (next, released, later);
   }

@@ -22,7 +22,7 @@ use Rattle.sf_actor.specs.declared.holding.Holding.{Holding}
 use Rattle.sf_actor.specs.declared.holding.Holding.TheVariants as holding
 use Rattle.sf_actor.specs.Desks.{DeskHome, DeskView, has_queue, known_of, mark_among}
 use Rattle.sf_actor.specs.Known.{share_of}
-use Rattle.sf_actor.specs.Parts.{PartsOf, drawn_picture, queue_held, token_of}
+use Rattle.sf_actor.specs.Holdings.{HoldingsOf, drawn_picture, queue_held, token_of}
 use Rattle.sf_actor.specs.Scripts.{crop_of, fence_of}
 use Rattle.sf_actor.specs.Tests.{refusal_of}
 use Rattle.sf_actor.specs.Tries.{ActorOf, drawn_turn, ended_by, held_in, past_of}
@@ -38,7 +38,7 @@ use Rattle.sf_actor.proofs.ReplyRecords.{cancel_tells, queue_tells, release_tell
 use Rattle.sf_actor_steps.specs.Acting.{Acts}
 use Rattle.sf_actor_steps.specs.Actors.{parts_of}
 use Rattle.sf_actor_steps.specs.Calling.{placed, received, with_held}
-use Rattle.sf_actor_steps.specs.Coming.{Comes, IsReady}
+use Rattle.sf_actor_steps.specs.inner.Coming.{Comes, IsReady}
 use Rattle.sf_actor_steps.specs.Forming.{cancel_fence, moving}
 use Rattle.sf_actor_steps.specs.declared.asking.Asking.{Asking}
 use Rattle.sf_actor_steps.specs.declared.asking.Homes.{Homes}
@@ -121,7 +121,7 @@ module _ {B : Type 0} where
             kept_came pictures home actor s after called_view new queue asked reply (parts_with actor.parts name None actor.parts.stock)
             (λ told is. release_tells queue name points lease fence (past_of actor).holdings told reply is)
             refl (ap (λ (r : QReply B). r.ends) given.0) ends given.1
-            (ap (λ (h : Bindings B). parts_of h) (bindings ∙ ap (received asking.homes (with_held before name None)) given.0) ∙ ap (λ (p : PartsOf B). parts_with p name None p.stock) (sym ready.parts))
+            (ap (λ (h : Bindings B). parts_of h) (bindings ∙ ap (received asking.homes (with_held before name None)) given.0) ∙ ap (λ (p : HoldingsOf B). parts_with p name None p.stock) (sym ready.parts))
             (there_with home actor.parts name None actor.parts.stock low ready.keeps.there (λ now e. none_some now e))
         | inr refused ↦
             kept_came pictures home actor s after called_view new queue asked reply actor.parts
@@ -132,7 +132,7 @@ module _ {B : Type 0} where
       ])
 
   -- the turn that ends is the one that the name held
-  queue_ended : (queue : QueueId) (parts : PartsOf B) (name p : ℕ) (time : Option ℕ) (crop : Option (ℕ × ℕ × ℕ × ℕ)) (points : List (ℕ × ℕ)) (lease : WriteLeaseOf) (picture : Picture) (shown : Rect) (fence : Fence) (told : PlainReply) (reply : QReply B) → held_in parts name ≡ Some (holding.Lends lease) → IsReply queue (call.Queue lease picture time shown fence) told reply → ended_turn reply.ends ≡ ended_by parts (called (step.Queue name p time crop points) told)
+  queue_ended : (queue : QueueId) (parts : HoldingsOf B) (name p : ℕ) (time : Option ℕ) (crop : Option (ℕ × ℕ × ℕ × ℕ)) (points : List (ℕ × ℕ)) (lease : WriteLeaseOf) (picture : Picture) (shown : Rect) (fence : Fence) (told : PlainReply) (reply : QReply B) → held_in parts name ≡ Some (holding.Lends lease) → IsReply queue (call.Queue lease picture time shown fence) told reply → ended_turn reply.ends ≡ ended_by parts (called (step.Queue name p time crop points) told)
   queue_ended queue parts name p time crop points lease picture shown fence (plain.Refused cause) reply held is = ap (λ (r : QReply B). ended_turn r.ends) is
   queue_ended queue parts name p time crop points lease picture shown fence plain.Done reply held is = absurd is
   queue_ended queue parts name p time crop points lease picture shown fence (plain.Dequeued slot buffer requested reallocated other) reply held is = absurd is
@@ -185,7 +185,7 @@ module _ {B : Type 0} where
             given.2
             (ap (λ (h : Bindings B). parts_of h) (bindings ∙ ap (received asking.homes (with_held before name None)) given.1)
             ∙ queued_parts before asking.homes name given.0 queue lease (pictures p) lease.work refl refl
-            ∙ ap (λ (parts : PartsOf B). parts_with parts name left parts.stock) (sym ready.parts))
+            ∙ ap (λ (parts : HoldingsOf B). parts_with parts name left parts.stock) (sym ready.parts))
             (there_with home actor.parts name left actor.parts.stock low ready.keeps.there
             (λ now e. owed_queue home queue lease given.0 (pictures p) lease.work now (subst (λ (of : QueueId). has_queue home of.0 ≡ true) (sym marking) there) e))
         | inr refused ↦
@@ -197,7 +197,7 @@ module _ {B : Type 0} where
             ready.keeps.there
       ])
 
-  cancel_ended : (queue : QueueId) (parts : PartsOf B) (name : ℕ) (points : List (ℕ × ℕ)) (lease : WriteLeaseOf) (fence : Fence) (told : PlainReply) (reply : QReply B) → held_in parts name ≡ Some (holding.Lends lease) → IsReply queue (call.Cancel lease fence) told reply → ended_turn reply.ends ≡ ended_by parts (called (step.Cancel name points) told)
+  cancel_ended : (queue : QueueId) (parts : HoldingsOf B) (name : ℕ) (points : List (ℕ × ℕ)) (lease : WriteLeaseOf) (fence : Fence) (told : PlainReply) (reply : QReply B) → held_in parts name ≡ Some (holding.Lends lease) → IsReply queue (call.Cancel lease fence) told reply → ended_turn reply.ends ≡ ended_by parts (called (step.Cancel name points) told)
   cancel_ended queue parts name points lease fence (plain.Refused cause) reply held is = ap (λ (r : QReply B). ended_turn r.ends) is
   cancel_ended queue parts name points lease fence plain.Done reply held is = ap (λ (r : QReply B). ended_turn r.ends) is ∙ drawn_goes B lease lease.work ∙ ap drawn_turn (sym held)
   cancel_ended queue parts name points lease fence (plain.Dequeued slot buffer requested reallocated other) reply held is = absurd is
@@ -231,7 +231,7 @@ module _ {B : Type 0} where
             (λ told is. cancel_tells queue name points lease fence (past_of actor).holdings told reply is)
             (λ told is. cancel_ended queue actor.parts name points lease fence told reply held is)
             given.1
-            (ap (λ (h : Bindings B). parts_of h) (bindings ∙ ap (received asking.homes (with_held before name None)) given.0) ∙ ap (λ (p : PartsOf B). parts_with p name None p.stock) (sym ready.parts))
+            (ap (λ (h : Bindings B). parts_of h) (bindings ∙ ap (received asking.homes (with_held before name None)) given.0) ∙ ap (λ (p : HoldingsOf B). parts_with p name None p.stock) (sym ready.parts))
             (there_with home actor.parts name None actor.parts.stock low ready.keeps.there (λ now e. none_some now e))
         | inr refused ↦
             ending_came pictures home actor s after new queue asked reply actor.parts

@@ -2,7 +2,7 @@
 use Rattle.std.proofs.Common.{◌≡◌, ℕ, zero, suc, List, [], ◌∷◌, get_or, map, Option, None, refl}
 use Rattle.std.specs.Option.{option_map}
 use Rattle.sf_actor.specs.Known.{plain_txn}
-use Rattle.sf_actor.specs.Parts.{token_of}
+use Rattle.sf_actor.specs.Holdings.{token_of}
 use Rattle.sf_actor.specs.Names.{name_in, transaction_in}
 use Rattle.sf_actor_steps.specs.declared.bindings.Bindings.{Bindings}
 use Rattle.sf_actor_steps.specs.Bindings.{holdings_of}

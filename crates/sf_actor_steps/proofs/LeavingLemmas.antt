@@ -16,8 +16,8 @@ pub ok-map : {T E : Type 0} (P Q : T → Type 0) (r : Result T E) → ((x : T) �
 ok-map P Q (Ok x) f p = f x p
 ok-map P Q (Err e) f p = p
 
-pub leaves : {B : Type 0} (pictures : ℕ → Picture) (home : DeskHome) (by place : ℕ) (s : Step) (fence : Option Fence) (before after : Bindings B) (old looked new : DeskView B) (came_to : Tried) → LooksFor home fence old looked → MakesCall pictures home by place s before after looked new came_to → TriesToLeave pictures home by place s fence before after old new came_to
-leaves pictures home by place s fence before after old looked new (tried.Own status) looks makes = absurd makes.tries
-leaves pictures home by place s fence before after old looked new (tried.Called status values) looks makes = (looked, looks, makes)
-leaves pictures home by place s fence before after old looked new (tried.Sent number) looks makes = (looked, looks, makes)
-leaves pictures home by place s fence before after old looked new tried.NotYet looks makes = (looked, looks, makes)
+pub leaves : {B : Type 0} (pictures : ℕ → Picture) (home : DeskHome) (by step_number : ℕ) (s : Step) (fence : Option Fence) (before after : Bindings B) (old looked new : DeskView B) (came_to : Tried) → LooksFor home fence old looked → MakesCall pictures home by step_number s before after looked new came_to → TriesToLeave pictures home by step_number s fence before after old new came_to
+leaves pictures home by step_number s fence before after old looked new (tried.Own status) looks makes = absurd makes.tries
+leaves pictures home by step_number s fence before after old looked new (tried.Called status values) looks makes = (looked, looks, makes)
+leaves pictures home by step_number s fence before after old looked new (tried.Sent number) looks makes = (looked, looks, makes)
+leaves pictures home by step_number s fence before after old looked new tried.NotYet looks makes = (looked, looks, makes)

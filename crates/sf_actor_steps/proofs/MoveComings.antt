@@ -22,7 +22,7 @@ use Rattle.sf_actor.specs.declared.tried.Reply.{Reply}
 use Rattle.sf_actor.specs.Desks.{DeskHome, DeskView, has_queue, known_of, mark_among}
 use Rattle.sf_actor.specs.Known.{share_of}
 use Rattle.sf_actor.specs.Names.{Holdings, name_in}
-use Rattle.sf_actor.specs.Parts.{PartsOf, plain_of}
+use Rattle.sf_actor.specs.Holdings.{HoldingsOf, plain_of}
 use Rattle.sf_actor.specs.Points.{detached_fence, frame_fence, or_none, requested_fence}
 use Rattle.sf_actor.specs.Scripts.{queue_of}
 use Rattle.sf_actor.specs.Tests.{bad_value, refusal_of}
@@ -39,7 +39,7 @@ use Rattle.sf_actor.proofs.ReplyRecords.{attach_read_tells, attach_tells, detach
 use Rattle.sf_actor_steps.specs.Acting.{Acts}
 use Rattle.sf_actor_steps.specs.Actors.{parts_of}
 use Rattle.sf_actor_steps.specs.Calling.{received, with_held}
-use Rattle.sf_actor_steps.specs.Coming.{Comes, IsReady, reply_with}
+use Rattle.sf_actor_steps.specs.inner.Coming.{Comes, IsReady, reply_with}
 use Rattle.sf_actor_steps.specs.Doing.{MakesCall}
 use Rattle.sf_actor_steps.specs.Forming.{joining, moving}
 use Rattle.sf_actor_steps.specs.Bindings.{holdings_of}
@@ -83,7 +83,7 @@ module _ {B : Type 0} where
             kept_came pictures home actor s after called_view new queue asked reply (moved_held actor.parts from to now)
             (λ told is. attach_tells queue q from to loose (past_of actor).holdings told reply is)
             refl (ap (λ (r : QReply B). r.ends) given.2) ends given.3
-            (ap (λ (h : Bindings B). parts_of h) (bindings ∙ ap (received asking.homes (with_held before from None)) given.2) ∙ ap (λ (p : PartsOf B). moved_held p from to now) (sym ready.parts))
+            (ap (λ (h : Bindings B). parts_of h) (bindings ∙ ap (received asking.homes (with_held before from None)) given.2) ∙ ap (λ (p : HoldingsOf B). moved_held p from to now) (sym ready.parts))
             (there_moved home actor.parts from to now low_from low_to ready.keeps.there (subst (λ (of : QueueId). has_queue home of.0 ≡ true) (sym marking) has))
         | inr refused ↦
             kept_came pictures home actor s after called_view new queue asked reply actor.parts
@@ -119,7 +119,7 @@ module _ {B : Type 0} where
             kept_came pictures home actor s after called_view new queue asked reply (moved_held actor.parts from to now)
             (λ told is. attach_read_tells queue q from to loose (past_of actor).holdings told reply is)
             refl (ap (λ (r : QReply B). r.ends) given.2) ends given.3
-            (ap (λ (h : Bindings B). parts_of h) (bindings ∙ ap (received asking.homes (with_held before from None)) given.2) ∙ ap (λ (p : PartsOf B). moved_held p from to now) (sym ready.parts))
+            (ap (λ (h : Bindings B). parts_of h) (bindings ∙ ap (received asking.homes (with_held before from None)) given.2) ∙ ap (λ (p : HoldingsOf B). moved_held p from to now) (sym ready.parts))
             (there_moved home actor.parts from to now low_from low_to ready.keeps.there (subst (λ (of : QueueId). has_queue home of.0 ≡ true) (sym marking) has))
         | inr refused ↦
             kept_came pictures home actor s after called_view new queue asked reply actor.parts
@@ -131,7 +131,7 @@ module _ {B : Type 0} where
 
   -- the bindings hold what the trace tells
   pub bindings_told : (pictures : ℕ → Picture) (home : DeskHome) (actor : ActorOf B) (before : Bindings B) (old : DeskView B) (s : Step) → IsReady pictures home actor before old s → holdings_of before ≡ (past_of actor).holdings
-  bindings_told pictures home actor before old s ready = ap (λ (p : PartsOf B). plain_of p) (sym ready.parts) ∙ ready.keeps.kept.has
+  bindings_told pictures home actor before old s ready = ap (λ (p : HoldingsOf B). plain_of p) (sym ready.parts) ∙ ready.keeps.kept.has
 
   -- a look before a detach leaves what the actor keeps, and shows that the fence is reached
   looks_keep : (pictures : ℕ → Picture) (home : DeskHome) (actor : ActorOf B) (fence : Option Fence) (old looked : DeskView B) → LooksFor home fence old looked → ActorKept pictures actor (share_of actor.script.number (known_of home old)) → ActorKept pictures actor (share_of actor.script.number (known_of home looked))
@@ -151,9 +151,9 @@ module _ {B : Type 0} where
   open_comes pictures home actor before after old new s None status ready form fenced is same finds = absurd finds
   open_comes pictures home actor before after old new s (Some fence) status ready form fenced is same (seen, sees, unmet, changes) =
       let by = actor.script.number in
-      let place : ℕ = length actor.trace + 1 in
+      let step_number : ℕ = length actor.trace + 1 in
       let done : Done = record { step = s; answered = answered.Own bad_value } in
-      let shown : Reply = reply_with by place bad_value [] in
+      let shown : Reply = reply_with by step_number bad_value [] in
       let looked = see_looked home old new seen sees changes in
       subst (λ (number : ℕ). Comes pictures home actor after old new (tried.Own number)) (sym is)
       (own_done pictures home actor after old new done actor.parts shown refl
@@ -171,7 +171,7 @@ module _ {B : Type 0} where
       one : (other : Fence) → Some fence ≡ Some other → fence ≡ other
       one other e = cc
 
-  detach_ended : (queue : QueueId) (parts : PartsOf B) (from to : ℕ) (lease : WriteLeaseOf) (told : PlainReply) (reply : QReply B) → held_in parts from ≡ Some (holding.Lends lease) → IsReply queue (call.Detach lease) told reply → ended_turn reply.ends ≡ ended_by parts (called (step.PDetach from to) told)
+  detach_ended : (queue : QueueId) (parts : HoldingsOf B) (from to : ℕ) (lease : WriteLeaseOf) (told : PlainReply) (reply : QReply B) → held_in parts from ≡ Some (holding.Lends lease) → IsReply queue (call.Detach lease) told reply → ended_turn reply.ends ≡ ended_by parts (called (step.PDetach from to) told)
   detach_ended queue parts from to lease (plain.Refused cause) reply held is = ap (λ (r : QReply B). ended_turn r.ends) is
   detach_ended queue parts from to lease plain.Done reply held is = ap (λ (r : QReply B). ended_turn r.ends) is ∙ drawn_goes B lease lease.work ∙ ap drawn_turn (sym held)
   detach_ended queue parts from to lease (plain.Dequeued slot buffer requested reallocated other) reply held is = absurd is
@@ -209,7 +209,7 @@ module _ {B : Type 0} where
             (λ told is. detach_tells queue from to lease (past_of actor).holdings told reply is)
             (λ told is. detach_ended queue actor.parts from to lease told reply held is)
             given.1
-            (ap (λ (h : Bindings B). parts_of h) (bindings ∙ ap (received asking.homes (with_held before from None)) given.0) ∙ ap (λ (p : PartsOf B). moved_held p from to now) (sym ready.parts))
+            (ap (λ (h : Bindings B). parts_of h) (bindings ∙ ap (received asking.homes (with_held before from None)) given.0) ∙ ap (λ (p : HoldingsOf B). moved_held p from to now) (sym ready.parts))
             (there_moved home actor.parts from to now low_from low_to ready.keeps.there there)
         | inr refused ↦
             ending_came pictures home actor s after new queue asked reply actor.parts
@@ -264,7 +264,7 @@ module _ {B : Type 0} where
             kept_came pictures home actor s after called_view new queue asked reply (moved_held actor.parts from to now)
             (λ told is. detach_read_tells queue from to lease (past_of actor).holdings told reply is)
             refl (ap (λ (r : QReply B). r.ends) given.0) ends given.1
-            (ap (λ (h : Bindings B). parts_of h) (bindings ∙ ap (received asking.homes (with_held before from None)) given.0) ∙ ap (λ (p : PartsOf B). moved_held p from to now) (sym ready.parts))
+            (ap (λ (h : Bindings B). parts_of h) (bindings ∙ ap (received asking.homes (with_held before from None)) given.0) ∙ ap (λ (p : HoldingsOf B). moved_held p from to now) (sym ready.parts))
             (there_moved home actor.parts from to now low_from low_to ready.keeps.there there)
         | inr refused ↦
             kept_came pictures home actor s after called_view new queue asked reply actor.parts

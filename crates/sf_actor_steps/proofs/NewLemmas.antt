@@ -13,7 +13,7 @@ use Rattle.sf_actor.specs.Desks.{DeskHome, DeskView, known_of}
 use Rattle.sf_actor.specs.Keeping.{TraceKept}
 use Rattle.sf_actor.specs.Known.{Call, Share, plain_arrival, share_of, told_by}
 use Rattle.sf_actor.specs.Rights.{BringsGiven, SendsAcquired}
-use Rattle.sf_actor.specs.Tales.{IsMade, sent_as}
+use Rattle.sf_actor.specs.ScriptTraces.{IsMade, sent_as}
 use Rattle.sf_actor.specs.Traces.{IsAnswered, past_from, places_from}
 use Rattle.sf_actor.specs.Tries.{Keeps, held_in}
 use Rattle.sf_actor.proofs.SignalledFences.{none_reached}

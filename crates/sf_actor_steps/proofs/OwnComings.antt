@@ -15,7 +15,7 @@ use Rattle.sf_actor.specs.declared.done.Done.{Done}
 use Rattle.sf_actor.specs.declared.tried.Reply.{Reply}
 use Rattle.sf_actor.specs.Desks.{ChangesTimes, DeskHome, DeskView, known_of, looks}
 use Rattle.sf_actor.specs.Known.{GoesOn, Share, share_of}
-use Rattle.sf_actor.specs.Parts.{PartsOf}
+use Rattle.sf_actor.specs.Holdings.{HoldingsOf}
 use Rattle.sf_actor.specs.Points.{detached_fence}
 use Rattle.sf_actor.specs.Tests.{refusal_of}
 use Rattle.sf_actor.specs.Tries.{ActorKept, ActorOf, AreThere, EntersInTurn, IsRefusedByFence, Sees, Open, ended_by, past_of}
@@ -28,7 +28,7 @@ use Rattle.sf_actor.proofs.StepKeepsActor.{stepped}
 use Rattle.sf_actor.proofs.TimelineSteps.{point_reached, signal_keeps, wait_keeps}
 use Rattle.sf_actor_steps.specs.Acting.{Signals, Waits}
 use Rattle.sf_actor_steps.specs.Actors.{parts_of}
-use Rattle.sf_actor_steps.specs.Coming.{Comes, DoneWith, IsReady, after_step, reply_with}
+use Rattle.sf_actor_steps.specs.inner.Coming.{Comes, DoneWith, IsReady, after_step, reply_with}
 use Rattle.sf_actor_steps.specs.declared.bindings.Bindings.{Bindings}
 use Rattle.sf_actor_steps.specs.declared.tried.Tried.{Tried}
 use Rattle.sf_actor_steps.specs.declared.tried.Tried.TheVariants as tried
@@ -63,13 +63,13 @@ module _ {B : Type 0} where
       none_some fence e = cc
 
   -- the actor keeps what it keeps with what is in its bindings
-  pub held_as : (pictures : ℕ → Picture) (actor : ActorOf B) (bindings : Bindings B) (done : Done) (reply : Reply) (parts : PartsOf B) (share : Share B) → parts_of bindings ≡ parts → reply ≡ reply_at actor.script.number (at_end actor.trace done) → ActorKept pictures (stepped actor done parts) share → ActorKept pictures (after_step actor bindings done reply) share
+  pub held_as : (pictures : ℕ → Picture) (actor : ActorOf B) (bindings : Bindings B) (done : Done) (reply : Reply) (parts : HoldingsOf B) (share : Share B) → parts_of bindings ≡ parts → reply ≡ reply_at actor.script.number (at_end actor.trace done) → ActorKept pictures (stepped actor done parts) share → ActorKept pictures (after_step actor bindings done reply) share
   held_as pictures actor bindings done reply parts share same told kept =
       subst (λ (r : Reply). ActorKept pictures (after_step actor bindings done r) share) (sym told)
-      (subst (λ (p : PartsOf B). ActorKept pictures (stepped actor done p) share) (sym same) kept)
+      (subst (λ (p : HoldingsOf B). ActorKept pictures (stepped actor done p) share) (sym same) kept)
 
   -- a step that its actor answers, after which the actor has these parts
-  pub record OwnDone (pictures : ℕ → Picture) (home : DeskHome) (actor : ActorOf B) (bindings : Bindings B) (old new : DeskView B) (done : Done) (parts : PartsOf B) : Type 0 where
+  pub record OwnDone (pictures : ℕ → Picture) (home : DeskHome) (actor : ActorOf B) (bindings : Bindings B) (old new : DeskView B) (done : Done) (parts : HoldingsOf B) : Type 0 where
     pub signals : new.times.signals ≡ old.times.signals ++ signal_of done.step
     pub ended : new.turns.leaves ≡ old.turns.leaves ++ ended_by actor.parts done
     pub entered : EntersInTurn home actor old new done
@@ -79,7 +79,7 @@ module _ {B : Type 0} where
     pub kept : ActorKept pictures (stepped actor done parts) (share_of actor.script.number (known_of home new))
     pub there : AreThere home parts
 
-  pub own_done : (pictures : ℕ → Picture) (home : DeskHome) (actor : ActorOf B) (bindings : Bindings B) (old new : DeskView B) (done : Done) (parts : PartsOf B) (reply : Reply) → reply ≡ reply_at actor.script.number (at_end actor.trace done) → OwnDone pictures home actor bindings old new done parts → DoneWith pictures home actor bindings old new reply
+  pub own_done : (pictures : ℕ → Picture) (home : DeskHome) (actor : ActorOf B) (bindings : Bindings B) (old new : DeskView B) (done : Done) (parts : HoldingsOf B) (reply : Reply) → reply ≡ reply_at actor.script.number (at_end actor.trace done) → OwnDone pictures home actor bindings old new done parts → DoneWith pictures home actor bindings old new reply
   own_done pictures home actor bindings old new done parts reply told own = record {
     done = done;
     does = record {

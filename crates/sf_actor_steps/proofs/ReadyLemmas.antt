@@ -19,11 +19,11 @@ use Rattle.sf_actor.specs.declared.holding.Holding.TheVariants as holding
 use Rattle.sf_actor.specs.Desks.{DeskHome, DeskView, has_queue}
 use Rattle.sf_actor.specs.Known.{plain_txn}
 use Rattle.sf_actor.specs.Names.{Holdings, Token, is_frame, is_lent, is_owing, name_in, transaction_in}
-use Rattle.sf_actor.specs.Parts.{PartsOf, ShowsPictures, plain_of, queue_held, token_of}
+use Rattle.sf_actor.specs.Holdings.{HoldingsOf, ShowsPictures, plain_of, queue_held, token_of}
 use Rattle.sf_actor.specs.Tests.{bad_value, can_not_show, empty, first_met, is_frameless, is_taken, occupied, refusal_of, shows_other, tests_of}
 use Rattle.sf_actor.specs.Tries.{ActorOf, contents_in, dequeues_in, held_in, is_dequeue, past_of}
 use Rattle.sf_actor_steps.specs.Acting.{MayAct}
-use Rattle.sf_actor_steps.specs.Coming.{IsReady}
+use Rattle.sf_actor_steps.specs.inner.Coming.{IsReady}
 use Rattle.sf_actor_steps.specs.Doing.{HasQueueOf}
 use Rattle.sf_actor_steps.specs.Drawing.{TakesPicture}
 use Rattle.sf_actor_steps.specs.Editing.{AreThere, HoldsShown, IsThere}
@@ -116,25 +116,25 @@ module _ {B : Type 0} where
   module _ (pictures : ℕ → Picture) (table : TableId) (home : DeskHome) (actor : ActorOf B) (bindings : Bindings B) (view : DeskView B) (s : Step) (ready : IsReady pictures home actor bindings view s) where
     -- what the trace tells of names and numbers is what they hold
     pub holds_told : holdings_of bindings ≡ (past_of actor).holdings
-    holds_told = ap (λ (parts : PartsOf B). plain_of parts) (sym ready.parts) ∙ ready.keeps.kept.has
+    holds_told = ap (λ (parts : HoldingsOf B). plain_of parts) (sym ready.parts) ∙ ready.keeps.kept.has
 
     queue_there : (name : ℕ) → HasQueueOf home (name_in (holdings_of bindings) name)
     queue_there name =
         subst (HasQueueOf home) (sym (name_in-held bindings name))
-        (held_queue home (get_or bindings.names name None) (λ held there. ready.keeps.there.names name held (ap (λ (parts : PartsOf B). held_in parts name) ready.parts ∙ there)))
+        (held_queue home (get_or bindings.names name None) (λ held there. ready.keeps.there.names name held (ap (λ (parts : HoldingsOf B). held_in parts name) ready.parts ∙ there)))
 
     frames_there : (number : ℕ) → AreThere home (get_or bindings.transactions number None)
     frames_there number =
-        frames_of home (get_or bindings.transactions number None) (λ txn there. ready.keeps.there.frames number txn (ap (λ (parts : PartsOf B). contents_in parts number) ready.parts ∙ there))
+        frames_of home (get_or bindings.transactions number None) (λ txn there. ready.keeps.there.frames number txn (ap (λ (parts : HoldingsOf B). contents_in parts number) ready.parts ∙ there))
 
     shown_there : (name : ℕ) (held : Holding B) → get_or bindings.names name None ≡ Some held → ShowsPictures pictures held
-    shown_there name held there = ready.keeps.kept.shows name held (ap (λ (parts : PartsOf B). held_in parts name) ready.parts ∙ there)
+    shown_there name held there = ready.keeps.kept.shows name held (ap (λ (parts : HoldingsOf B). held_in parts name) ready.parts ∙ there)
 
     permits_left : is_dequeue s ≡ true → 0 < length (permits_of bindings)
     permits_left is =
         let enough = ready.keeps.kept.permits.enough in
         let one = one_to_come actor.script.steps (length actor.trace) s ready.is_next is in
-        let sized : length actor.parts.stock ≡ length (permits_of bindings) = ap (λ (parts : PartsOf B). length parts.stock) ready.parts in
+        let sized : length actor.parts.stock ≡ length (permits_of bindings) = ap (λ (parts : HoldingsOf B). length parts.stock) ready.parts in
         omega (arith, enough, one, sized)
 
     draws_so : (name picture : ℕ) → first_met (tests_of pictures (holdings_of bindings) (step.Draw name picture)) ≡ None → TakesPicture (pictures picture) (get_or bindings.names name None)

@@ -10,7 +10,7 @@ use Rattle.sf_actor.specs.declared.done.Answered.TheVariants as answered
 use Rattle.sf_actor.specs.declared.done.Done.{Done}
 use Rattle.sf_actor.specs.Desks.{DeskHome, DeskView, known_of}
 use Rattle.sf_actor.specs.Names.{Holdings}
-use Rattle.sf_actor.specs.Parts.{PartsOf}
+use Rattle.sf_actor.specs.Holdings.{HoldingsOf}
 use Rattle.sf_actor.specs.Rights.{Turn}
 use Rattle.sf_actor.specs.Tests.{first_met, refusal_of, tests_of}
 use Rattle.sf_actor.specs.Traces.{Past}
@@ -19,7 +19,7 @@ use Rattle.sf_actor.specs.Known.{share_of}
 use Rattle.sf_actor.proofs.Forms.{IsQuiet, refused_keeps}
 use Rattle.sf_actor.proofs.CallGrowth.{goes_same}
 use Rattle.sf_actor.proofs.StepKeepsActor.{stepped}
-use Rattle.sf_actor_steps.specs.Coming.{DoneWith, IsReady, after_step, reply_with}
+use Rattle.sf_actor_steps.specs.inner.Coming.{DoneWith, IsReady, after_step, reply_with}
 use Rattle.sf_actor_steps.specs.declared.bindings.Bindings.{Bindings}
 
 none_some : {A : Type 0} (a : A) → None ≡ Some a → ⊥
@@ -82,34 +82,34 @@ unfolding refusal_of
 tested pictures holdings s status e = e
 
 -- a step that is refused signals nothing, shows no point, and draws nothing
-quiet : (pictures : ℕ → Picture) (place : ℕ) (past : Past) (s : Step) (status : ℕ) → (status == 0) ≡ false → first_met (tests_of pictures past.holdings s) ≡ Some status → IsQuiet (record { place = place; past = past; done = record { step = s; answered = answered.Own status } })
-quiet pictures place past (step.Connect q) status failed e = record { signals = refl; pays = refl; enters = refl; shows = refl }
-quiet pictures place past (step.Disconnect q) status failed e = record { signals = refl; pays = refl; enters = refl; shows = refl }
-quiet pictures place past (step.MaxDequeued q n) status failed e = record { signals = refl; pays = refl; enters = refl; shows = refl }
-quiet pictures place past (step.Async q on) status failed e = record { signals = refl; pays = refl; enters = refl; shows = refl }
-quiet pictures place past (step.Dequeue q s size) status failed e = record { signals = refl; pays = refl; enters = refl; shows = refl }
-quiet pictures place past (step.DequeueWait q s size) status failed e = record { signals = refl; pays = refl; enters = refl; shows = refl }
-quiet pictures place past (step.Request s) status failed e = record { signals = refl; pays = refl; enters = refl; shows = refl }
-quiet pictures place past (step.Draw s p) status failed e = record { signals = refl; pays = rw failed refl; enters = rw failed refl; shows = rw failed refl }
-quiet pictures place past (step.Queue s p time crop points) status failed e = record { signals = refl; pays = refl; enters = refl; shows = refl }
-quiet pictures place past (step.Cancel s points) status failed e = record { signals = refl; pays = refl; enters = refl; shows = refl }
-quiet pictures place past (step.PDetach s b) status failed e = record { signals = refl; pays = refl; enters = refl; shows = refl }
-quiet pictures place past (step.PAttach q b s) status failed e = record { signals = refl; pays = refl; enters = refl; shows = refl }
-quiet pictures place past (step.MaxAcquired q n) status failed e = record { signals = refl; pays = refl; enters = refl; shows = refl }
-quiet pictures place past (step.Abandon q) status failed e = record { signals = refl; pays = refl; enters = refl; shows = refl }
-quiet pictures place past (step.Acquire q i at) status failed e = record { signals = refl; pays = refl; enters = refl; shows = refl }
-quiet pictures place past (step.Release i points) status failed e = record { signals = refl; pays = refl; enters = refl; shows = refl }
-quiet pictures place past (step.CDetach i b) status failed e = record { signals = refl; pays = refl; enters = refl; shows = refl }
-quiet pictures place past (step.CAttach q b i) status failed e = record { signals = refl; pays = refl; enters = refl; shows = refl }
-quiet pictures place past (step.Signal t v) status failed e = absurd (none_some status e)
-quiet pictures place past (step.Wait t v) status failed e = absurd (none_some status e)
-quiet pictures place past (step.Tx n) status failed e = record { signals = refl; pays = refl; enters = refl; shows = refl }
-quiet pictures place past (step.Desire n time) status failed e = record { signals = refl; pays = refl; enters = refl; shows = refl }
-quiet pictures place past (step.Buffer n layer i) status failed e = record { signals = refl; pays = refl; enters = refl; shows = refl }
-quiet pictures place past (step.Barrier n layer frame) status failed e = record { signals = refl; pays = refl; enters = refl; shows = refl }
-quiet pictures place past (step.Merge n m) status failed e = record { signals = refl; pays = refl; enters = refl; shows = refl }
-quiet pictures place past (step.Apply n token) status failed e = record { signals = refl; pays = refl; enters = refl; shows = refl }
-quiet pictures place past (step.Set n layer change) status failed e = record { signals = refl; pays = refl; enters = refl; shows = refl }
+quiet : (pictures : ℕ → Picture) (step_number : ℕ) (past : Past) (s : Step) (status : ℕ) → (status == 0) ≡ false → first_met (tests_of pictures past.holdings s) ≡ Some status → IsQuiet (record { place = step_number; past = past; done = record { step = s; answered = answered.Own status } })
+quiet pictures step_number past (step.Connect q) status failed e = record { signals = refl; pays = refl; enters = refl; shows = refl }
+quiet pictures step_number past (step.Disconnect q) status failed e = record { signals = refl; pays = refl; enters = refl; shows = refl }
+quiet pictures step_number past (step.MaxDequeued q n) status failed e = record { signals = refl; pays = refl; enters = refl; shows = refl }
+quiet pictures step_number past (step.Async q on) status failed e = record { signals = refl; pays = refl; enters = refl; shows = refl }
+quiet pictures step_number past (step.Dequeue q s size) status failed e = record { signals = refl; pays = refl; enters = refl; shows = refl }
+quiet pictures step_number past (step.DequeueWait q s size) status failed e = record { signals = refl; pays = refl; enters = refl; shows = refl }
+quiet pictures step_number past (step.Request s) status failed e = record { signals = refl; pays = refl; enters = refl; shows = refl }
+quiet pictures step_number past (step.Draw s p) status failed e = record { signals = refl; pays = rw failed refl; enters = rw failed refl; shows = rw failed refl }
+quiet pictures step_number past (step.Queue s p time crop points) status failed e = record { signals = refl; pays = refl; enters = refl; shows = refl }
+quiet pictures step_number past (step.Cancel s points) status failed e = record { signals = refl; pays = refl; enters = refl; shows = refl }
+quiet pictures step_number past (step.PDetach s b) status failed e = record { signals = refl; pays = refl; enters = refl; shows = refl }
+quiet pictures step_number past (step.PAttach q b s) status failed e = record { signals = refl; pays = refl; enters = refl; shows = refl }
+quiet pictures step_number past (step.MaxAcquired q n) status failed e = record { signals = refl; pays = refl; enters = refl; shows = refl }
+quiet pictures step_number past (step.Abandon q) status failed e = record { signals = refl; pays = refl; enters = refl; shows = refl }
+quiet pictures step_number past (step.Acquire q i at) status failed e = record { signals = refl; pays = refl; enters = refl; shows = refl }
+quiet pictures step_number past (step.Release i points) status failed e = record { signals = refl; pays = refl; enters = refl; shows = refl }
+quiet pictures step_number past (step.CDetach i b) status failed e = record { signals = refl; pays = refl; enters = refl; shows = refl }
+quiet pictures step_number past (step.CAttach q b i) status failed e = record { signals = refl; pays = refl; enters = refl; shows = refl }
+quiet pictures step_number past (step.Signal t v) status failed e = absurd (none_some status e)
+quiet pictures step_number past (step.Wait t v) status failed e = absurd (none_some status e)
+quiet pictures step_number past (step.Tx n) status failed e = record { signals = refl; pays = refl; enters = refl; shows = refl }
+quiet pictures step_number past (step.Desire n time) status failed e = record { signals = refl; pays = refl; enters = refl; shows = refl }
+quiet pictures step_number past (step.Buffer n layer i) status failed e = record { signals = refl; pays = refl; enters = refl; shows = refl }
+quiet pictures step_number past (step.Barrier n layer frame) status failed e = record { signals = refl; pays = refl; enters = refl; shows = refl }
+quiet pictures step_number past (step.Merge n m) status failed e = record { signals = refl; pays = refl; enters = refl; shows = refl }
+quiet pictures step_number past (step.Apply n token) status failed e = record { signals = refl; pays = refl; enters = refl; shows = refl }
+quiet pictures step_number past (step.Set n layer change) status failed e = record { signals = refl; pays = refl; enters = refl; shows = refl }
 
 module _ {B : Type 0} where
   pub refused_done : (pictures : ℕ → Picture) (home : DeskHome) (actor : ActorOf B) (bindings : Bindings B) (view : DeskView B) (s : Step) (status : ℕ) → IsReady pictures home actor bindings view s → refusal_of pictures (past_of actor).holdings s ≡ Some status → DoneWith pictures home actor bindings view view (reply_with actor.script.number (length actor.trace + 1) status [])
@@ -121,7 +121,7 @@ module _ {B : Type 0} where
       let reply = reply_with actor.script.number (length actor.trace + 1) status [] in
       let kept = refused_keeps pictures actor s status (share_of actor.script.number (known_of home view)) ready.is_next refused failed still ready.keeps.kept in
       let moved : ActorKept pictures (after_step actor bindings done reply) (share_of actor.script.number (known_of home view)) =
-      subst (λ (parts : PartsOf B). ActorKept pictures (stepped actor done parts) (share_of actor.script.number (known_of home view))) ready.parts kept in
+      subst (λ (parts : HoldingsOf B). ActorKept pictures (stepped actor done parts) (share_of actor.script.number (known_of home view))) ready.parts kept in
       record {
         done = done;
         does = record {
@@ -136,10 +136,10 @@ module _ {B : Type 0} where
           refused = λ fence fenced unrefused own. absurd (none_some status (sym unrefused ∙ refused));
           alone = λ exact other apart. goes_same other (known_of home view);
         };
-        keeps = record { kept = moved; there = subst (λ (parts : PartsOf B). AreThere home parts) ready.parts ready.keeps.there };
+        keeps = record { kept = moved; there = subst (λ (parts : HoldingsOf B). AreThere home parts) ready.parts ready.keeps.there };
       }
     where
-      none_ended : (parts : PartsOf B) (s : Step) (status : ℕ) → (status == 0) ≡ false → ended_by parts (record { step = s; answered = answered.Own status }) ≡ []
+      none_ended : (parts : HoldingsOf B) (s : Step) (status : ℕ) → (status == 0) ≡ false → ended_by parts (record { step = s; answered = answered.Own status }) ≡ []
       none_ended parts s status failed = rw failed refl
 
       own_same : (a b : ℕ) → answered.Own a ≡ answered.Own b → a ≡ b

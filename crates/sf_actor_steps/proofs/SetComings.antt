@@ -23,7 +23,7 @@ use Rattle.sf_actor.proofs.ReplyRecords.{Tells, abandon_tells, async_tells, conn
 use Rattle.sf_actor_steps.specs.Acting.{Acts}
 use Rattle.sf_actor_steps.specs.Actors.{parts_of}
 use Rattle.sf_actor_steps.specs.Calling.{Ends, placed, received, with_spare}
-use Rattle.sf_actor_steps.specs.Coming.{Comes, IsReady}
+use Rattle.sf_actor_steps.specs.inner.Coming.{Comes, IsReady}
 use Rattle.sf_actor_steps.specs.Forming.{named}
 use Rattle.sf_actor_steps.specs.declared.asking.Asking.{Asking}
 use Rattle.sf_actor_steps.specs.declared.asking.Homes.{Homes}

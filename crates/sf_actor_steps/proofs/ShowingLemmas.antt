@@ -15,7 +15,7 @@ use Rattle.sf_actor.specs.declared.holding.Holding.{Holding}
 use Rattle.sf_actor.specs.declared.holding.Holding.TheVariants as holding
 use Rattle.sf_actor.specs.Desks.{DeskHome}
 use Rattle.sf_actor.specs.Names.{is_frame, name_in}
-use Rattle.sf_actor.specs.Parts.{token_of}
+use Rattle.sf_actor.specs.Holdings.{token_of}
 use Rattle.sf_actor.specs.Scripts.{op_of}
 use Rattle.sf_actor_steps.specs.Editing.{AreThere, HoldsShown, IsThere, TakesTxn}
 use Rattle.sf_actor_steps.specs.Forming.{Takes}

@@ -117,18 +117,18 @@ module _ {B : Type 0} (table : TableId) where
   spare_told queue asked (plain.Attached slot held) reply of is = spare_done queue asked (plain.Attached slot held) reply of is
   spare_told queue asked (plain.Acquired item dropped) reply of is = spare_done queue asked (plain.Acquired item dropped) reply of is
 
-  tries_call_stays : (home : DeskHome) (by place : ℕ) (asking : Asking B) (before after : Bindings B) (old new : DeskView B) (came_to : Tried) → IsOfTable table (permit_of asking.call) → TriesCall home by place asking before after old new came_to → Stays table before after
-  tries_call_stays home by place asking before after old new (tried.Own status) of is = absurd is
-  tries_call_stays home by place asking before after old new (tried.Sent number) of is = absurd is
-  tries_call_stays home by place asking before after old new tried.NotYet of is =
+  tries_call_stays : (home : DeskHome) (by step_number : ℕ) (asking : Asking B) (before after : Bindings B) (old new : DeskView B) (came_to : Tried) → IsOfTable table (permit_of asking.call) → TriesCall home by step_number asking before after old new came_to → Stays table before after
+  tries_call_stays home by step_number asking before after old new (tried.Own status) of is = absurd is
+  tries_call_stays home by step_number asking before after old new (tried.Sent number) of is = absurd is
+  tries_call_stays home by step_number asking before after old new tried.NotYet of is =
       subst (λ (bindings : Bindings B). Stays table before bindings) (sym is.bindings)
       (then_stays before (placed asking.homes before (brought asking.call)) (taken_back asking.homes before asking.call)
       (placed_stays asking.homes before (brought asking.call)) (spare_stays (placed asking.homes before (brought asking.call)) (permit_of asking.call) of))
-  tries_call_stays home by place asking before after old new (tried.Called status values) of is =
+  tries_call_stays home by step_number asking before after old new (tried.Called status values) of is =
       let calls = is.3 in
       let reply = is.0 in
       let mark = mark_among home.marks asking.queue.0 in
-      let legal : IsLegal (Answers mark) (entry by (place, asking.call) reply ∷ calls.made.earlier) = subst (IsLegal (Answers mark)) calls.made.newest calls.made.legal in
+      let legal : IsLegal (Answers mark) (entry by (step_number, asking.call) reply ∷ calls.made.earlier) = subst (IsLegal (Answers mark)) calls.made.newest calls.made.legal in
       let replied : Replied mark calls.made.earlier by asking.call reply = legal.0 in
       subst (λ (bindings : Bindings B). Stays table before bindings) (sym calls.bindings)
       (then_stays before (placed asking.homes before reply.gives) (received asking.homes before reply)
@@ -186,16 +186,16 @@ module _ {B : Type 0} (table : TableId) where
   forms_stay pictures (step.Apply n token) before taken asking of forms = absurd forms
   forms_stay pictures (step.Set n layer change) before taken asking of forms = absurd forms
 
-  makes_stay : (pictures : ℕ → Picture) (home : DeskHome) (by place : ℕ) (s : Step) (before after : Bindings B) (old new : DeskView B) (came_to : Tried) → AreOfTable table before → MakesCall pictures home by place s before after old new came_to → Stays table before after
-  makes_stay pictures home by place s before after old new came_to of makes =
+  makes_stay : (pictures : ℕ → Picture) (home : DeskHome) (by step_number : ℕ) (s : Step) (before after : Bindings B) (old new : DeskView B) (came_to : Tried) → AreOfTable table before → MakesCall pictures home by step_number s before after old new came_to → Stays table before after
+  makes_stay pictures home by step_number s before after old new came_to of makes =
       let forms = forms_stay pictures s before makes.taken makes.asking of makes.forms in
-      then_stays before makes.taken after forms.stays (tries_call_stays home by place makes.asking makes.taken after old new came_to forms.permit makes.tries)
+      then_stays before makes.taken after forms.stays (tries_call_stays home by step_number makes.asking makes.taken after old new came_to forms.permit makes.tries)
 
-  leaves_stay : (pictures : ℕ → Picture) (home : DeskHome) (by place : ℕ) (s : Step) (fence : Option Fence) (before after : Bindings B) (old new : DeskView B) (came_to : Tried) → AreOfTable table before → TriesToLeave pictures home by place s fence before after old new came_to → Stays table before after
-  leaves_stay pictures home by place s fence before after old new (tried.Own status) of tries = as_before before after tries.1
-  leaves_stay pictures home by place s fence before after old new (tried.Called status values) of tries = makes_stay pictures home by place s before after tries.0 new (tried.Called status values) of tries.2
-  leaves_stay pictures home by place s fence before after old new (tried.Sent number) of tries = makes_stay pictures home by place s before after tries.0 new (tried.Sent number) of tries.2
-  leaves_stay pictures home by place s fence before after old new tried.NotYet of tries = makes_stay pictures home by place s before after tries.0 new tried.NotYet of tries.2
+  leaves_stay : (pictures : ℕ → Picture) (home : DeskHome) (by step_number : ℕ) (s : Step) (fence : Option Fence) (before after : Bindings B) (old new : DeskView B) (came_to : Tried) → AreOfTable table before → TriesToLeave pictures home by step_number s fence before after old new came_to → Stays table before after
+  leaves_stay pictures home by step_number s fence before after old new (tried.Own status) of tries = as_before before after tries.1
+  leaves_stay pictures home by step_number s fence before after old new (tried.Called status values) of tries = makes_stay pictures home by step_number s before after tries.0 new (tried.Called status values) of tries.2
+  leaves_stay pictures home by step_number s fence before after old new (tried.Sent number) of tries = makes_stay pictures home by step_number s before after tries.0 new (tried.Sent number) of tries.2
+  leaves_stay pictures home by step_number s fence before after old new tried.NotYet of tries = makes_stay pictures home by step_number s before after tries.0 new tried.NotYet of tries.2
 
   dropped_stay : (queue : ℕ) (ok : Bool) (bindings : Bindings B) → Stays table bindings (if ok then without_lent queue bindings else bindings)
   dropped_stay queue true bindings = record { by = refl; names = length-map bindings.names (let_go_of queue); numbers = refl; of_table = λ of. of }
@@ -211,50 +211,50 @@ module _ {B : Type 0} (table : TableId) where
   draw_stays name picture seen held taken after old new (tried.Called status values) tries = absurd tries
   draw_stays name picture seen held taken after old new (tried.Sent number) tries = absurd tries
 
-  send_stays : (home : DeskHome) (by place number token : ℕ) (before after : Bindings B) (old new : DeskView B) (came_to : Tried) → TriesSend home by place number token before after old new came_to → Stays table before after
-  send_stays home by place number token before after old new (tried.Sent arrival) tries = takes_txn_stay before after number tries.sent tries.takes
-  send_stays home by place number token before after old new (tried.Own status) tries = absurd tries
-  send_stays home by place number token before after old new (tried.Called status values) tries = absurd tries
-  send_stays home by place number token before after old new tried.NotYet tries = absurd tries
+  send_stays : (home : DeskHome) (by step_number number token : ℕ) (before after : Bindings B) (old new : DeskView B) (came_to : Tried) → TriesSend home by step_number number token before after old new came_to → Stays table before after
+  send_stays home by step_number number token before after old new (tried.Sent arrival) tries = takes_txn_stay before after number tries.sent tries.takes
+  send_stays home by step_number number token before after old new (tried.Own status) tries = absurd tries
+  send_stays home by step_number number token before after old new (tried.Called status values) tries = absurd tries
+  send_stays home by step_number number token before after old new tried.NotYet tries = absurd tries
 
-  merge_stays : (home : DeskHome) (by place number other : ℕ) (before after : Bindings B) (old new : DeskView B) → Merges home by place number other before after old new → Stays table before after
-  merge_stays home by place number other before after old new merges =
+  merge_stays : (home : DeskHome) (by step_number number other : ℕ) (before after : Bindings B) (old new : DeskView B) → Merges home by step_number number other before after old new → Stays table before after
+  merge_stays home by step_number number other before after old new merges =
       let put = with_txn merges.without_both number (Some (merged merges.into merges.from)) in
       then_stays before merges.without_into after (takes_txn_stay before merges.without_into number merges.into merges.takes_into)
       (then_stays merges.without_into merges.without_both after (takes_txn_stay merges.without_into merges.without_both other merges.from merges.takes_from)
       (subst (λ (bindings : Bindings B). Stays table merges.without_both bindings) (sym merges.put_back)
       (then_stays merges.without_both put (with_txn put other (Some empty)) (txn_stays merges.without_both number (Some (merged merges.into merges.from))) (txn_stays put other (Some empty)))))
 
-  acts_stay : (pictures : ℕ → Picture) (home : DeskHome) (by place : ℕ) (s : Step) (before after : Bindings B) (old new : DeskView B) (came_to : Tried) → AreOfTable table before → Acts pictures home by place s before after old new came_to → Stays table before after
-  acts_stay pictures home by place (step.Connect q) before after old new came_to of acts = makes_stay pictures home by place (step.Connect q) before after old new came_to of acts
-  acts_stay pictures home by place (step.MaxDequeued q n) before after old new came_to of acts = makes_stay pictures home by place (step.MaxDequeued q n) before after old new came_to of acts
-  acts_stay pictures home by place (step.Async q on) before after old new came_to of acts = makes_stay pictures home by place (step.Async q on) before after old new came_to of acts
-  acts_stay pictures home by place (step.Dequeue q s size) before after old new came_to of acts = makes_stay pictures home by place (step.Dequeue q s size) before after old new came_to of acts
-  acts_stay pictures home by place (step.DequeueWait q s size) before after old new came_to of acts = makes_stay pictures home by place (step.DequeueWait q s size) before after old new came_to of acts
-  acts_stay pictures home by place (step.Request s) before after old new came_to of acts = makes_stay pictures home by place (step.Request s) before after old new came_to of acts
-  acts_stay pictures home by place (step.Queue s p time crop points) before after old new came_to of acts = makes_stay pictures home by place (step.Queue s p time crop points) before after old new came_to of acts
-  acts_stay pictures home by place (step.Cancel s points) before after old new came_to of acts = makes_stay pictures home by place (step.Cancel s points) before after old new came_to of acts
-  acts_stay pictures home by place (step.PAttach q b s) before after old new came_to of acts = makes_stay pictures home by place (step.PAttach q b s) before after old new came_to of acts
-  acts_stay pictures home by place (step.MaxAcquired q n) before after old new came_to of acts = makes_stay pictures home by place (step.MaxAcquired q n) before after old new came_to of acts
-  acts_stay pictures home by place (step.Abandon q) before after old new came_to of acts = makes_stay pictures home by place (step.Abandon q) before after old new came_to of acts
-  acts_stay pictures home by place (step.Acquire q i at) before after old new came_to of acts = makes_stay pictures home by place (step.Acquire q i at) before after old new came_to of acts
-  acts_stay pictures home by place (step.Release i points) before after old new came_to of acts = makes_stay pictures home by place (step.Release i points) before after old new came_to of acts
-  acts_stay pictures home by place (step.CAttach q b i) before after old new came_to of acts = makes_stay pictures home by place (step.CAttach q b i) before after old new came_to of acts
-  acts_stay pictures home by place (step.Disconnect q) before after old new came_to of acts = then_stays before acts.called after (makes_stay pictures home by place (step.Disconnect q) before acts.called old new came_to of acts.makes)
+  acts_stay : (pictures : ℕ → Picture) (home : DeskHome) (by step_number : ℕ) (s : Step) (before after : Bindings B) (old new : DeskView B) (came_to : Tried) → AreOfTable table before → Acts pictures home by step_number s before after old new came_to → Stays table before after
+  acts_stay pictures home by step_number (step.Connect q) before after old new came_to of acts = makes_stay pictures home by step_number (step.Connect q) before after old new came_to of acts
+  acts_stay pictures home by step_number (step.MaxDequeued q n) before after old new came_to of acts = makes_stay pictures home by step_number (step.MaxDequeued q n) before after old new came_to of acts
+  acts_stay pictures home by step_number (step.Async q on) before after old new came_to of acts = makes_stay pictures home by step_number (step.Async q on) before after old new came_to of acts
+  acts_stay pictures home by step_number (step.Dequeue q s size) before after old new came_to of acts = makes_stay pictures home by step_number (step.Dequeue q s size) before after old new came_to of acts
+  acts_stay pictures home by step_number (step.DequeueWait q s size) before after old new came_to of acts = makes_stay pictures home by step_number (step.DequeueWait q s size) before after old new came_to of acts
+  acts_stay pictures home by step_number (step.Request s) before after old new came_to of acts = makes_stay pictures home by step_number (step.Request s) before after old new came_to of acts
+  acts_stay pictures home by step_number (step.Queue s p time crop points) before after old new came_to of acts = makes_stay pictures home by step_number (step.Queue s p time crop points) before after old new came_to of acts
+  acts_stay pictures home by step_number (step.Cancel s points) before after old new came_to of acts = makes_stay pictures home by step_number (step.Cancel s points) before after old new came_to of acts
+  acts_stay pictures home by step_number (step.PAttach q b s) before after old new came_to of acts = makes_stay pictures home by step_number (step.PAttach q b s) before after old new came_to of acts
+  acts_stay pictures home by step_number (step.MaxAcquired q n) before after old new came_to of acts = makes_stay pictures home by step_number (step.MaxAcquired q n) before after old new came_to of acts
+  acts_stay pictures home by step_number (step.Abandon q) before after old new came_to of acts = makes_stay pictures home by step_number (step.Abandon q) before after old new came_to of acts
+  acts_stay pictures home by step_number (step.Acquire q i at) before after old new came_to of acts = makes_stay pictures home by step_number (step.Acquire q i at) before after old new came_to of acts
+  acts_stay pictures home by step_number (step.Release i points) before after old new came_to of acts = makes_stay pictures home by step_number (step.Release i points) before after old new came_to of acts
+  acts_stay pictures home by step_number (step.CAttach q b i) before after old new came_to of acts = makes_stay pictures home by step_number (step.CAttach q b i) before after old new came_to of acts
+  acts_stay pictures home by step_number (step.Disconnect q) before after old new came_to of acts = then_stays before acts.called after (makes_stay pictures home by step_number (step.Disconnect q) before acts.called old new came_to of acts.makes)
       (subst (λ (bindings : Bindings B). Stays table acts.called bindings) (sym acts.drops) (dropped_stay q (was_ok came_to) acts.called))
-  acts_stay pictures home by place (step.PDetach s b) before after old new came_to of acts = leaves_stay pictures home by place (step.PDetach s b) _ before after old new came_to of acts
-  acts_stay pictures home by place (step.CDetach s b) before after old new came_to of acts = leaves_stay pictures home by place (step.CDetach s b) _ before after old new came_to of acts
-  acts_stay pictures home by place (step.Draw s p) before after old new came_to of acts = then_stays before (with_held before s None) after (held_stays before s None) (draw_stays s (pictures p) acts.seen acts.held (with_held before s None) after acts.looked new came_to acts.tries)
-  acts_stay pictures home by place (step.Signal t v) before after old new came_to of acts = as_before before after acts.bindings
-  acts_stay pictures home by place (step.Wait t v) before after old new came_to of acts = as_before before after acts.bindings
-  acts_stay pictures home by place (step.Tx n) before after old new came_to of acts = subst (λ (bindings : Bindings B). Stays table before bindings) (sym acts.changed) (txn_stays before n (Some empty))
-  acts_stay pictures home by place (step.Desire n time) before after old new came_to of acts = edits_stay before after n _ acts.changed
-  acts_stay pictures home by place (step.Barrier n layer frame) before after old new came_to of acts = edits_stay before after n _ acts.changed
-  acts_stay pictures home by place (step.Set n layer change) before after old new came_to of acts = edits_stay before after n _ acts.changed
-  acts_stay pictures home by place (step.Buffer n layer i) before after old new came_to of acts = then_stays before acts.1.without_frame after (takes_stay before acts.1.without_frame i (holding.Reads acts.1.lease) acts.1.takes) (edits_stay acts.1.without_frame after n _ acts.1.edits)
-  acts_stay pictures home by place (step.Merge n m) before after old new came_to of acts = merge_stays home by place n m before after old new acts.1
-  acts_stay pictures home by place (step.Apply n token) before after old new came_to of acts = send_stays home by place n token before after old new came_to acts
+  acts_stay pictures home by step_number (step.PDetach s b) before after old new came_to of acts = leaves_stay pictures home by step_number (step.PDetach s b) _ before after old new came_to of acts
+  acts_stay pictures home by step_number (step.CDetach s b) before after old new came_to of acts = leaves_stay pictures home by step_number (step.CDetach s b) _ before after old new came_to of acts
+  acts_stay pictures home by step_number (step.Draw s p) before after old new came_to of acts = then_stays before (with_held before s None) after (held_stays before s None) (draw_stays s (pictures p) acts.seen acts.held (with_held before s None) after acts.looked new came_to acts.tries)
+  acts_stay pictures home by step_number (step.Signal t v) before after old new came_to of acts = as_before before after acts.bindings
+  acts_stay pictures home by step_number (step.Wait t v) before after old new came_to of acts = as_before before after acts.bindings
+  acts_stay pictures home by step_number (step.Tx n) before after old new came_to of acts = subst (λ (bindings : Bindings B). Stays table before bindings) (sym acts.changed) (txn_stays before n (Some empty))
+  acts_stay pictures home by step_number (step.Desire n time) before after old new came_to of acts = edits_stay before after n _ acts.changed
+  acts_stay pictures home by step_number (step.Barrier n layer frame) before after old new came_to of acts = edits_stay before after n _ acts.changed
+  acts_stay pictures home by step_number (step.Set n layer change) before after old new came_to of acts = edits_stay before after n _ acts.changed
+  acts_stay pictures home by step_number (step.Buffer n layer i) before after old new came_to of acts = then_stays before acts.1.without_frame after (takes_stay before acts.1.without_frame i (holding.Reads acts.1.lease) acts.1.takes) (edits_stay acts.1.without_frame after n _ acts.1.edits)
+  acts_stay pictures home by step_number (step.Merge n m) before after old new came_to of acts = merge_stays home by step_number n m before after old new acts.1
+  acts_stay pictures home by step_number (step.Apply n token) before after old new came_to of acts = send_stays home by step_number n token before after old new came_to acts
 
-  pub attempt_stays : (refusal : Option ℕ) (pictures : ℕ → Picture) (home : DeskHome) (by place : ℕ) (s : Step) (before after : Bindings B) (old new : DeskView B) (came_to : Tried) → AreOfTable table before → Attempts refusal pictures home by place s before after old new came_to → Stays table before after
-  attempt_stays (Some status) pictures home by place s before after old new came_to of attempts = as_before before after attempts.1
-  attempt_stays None pictures home by place s before after old new came_to of attempts = acts_stay pictures home by place s before after old new came_to of attempts
+  pub attempt_stays : (refusal : Option ℕ) (pictures : ℕ → Picture) (home : DeskHome) (by step_number : ℕ) (s : Step) (before after : Bindings B) (old new : DeskView B) (came_to : Tried) → AreOfTable table before → Attempts refusal pictures home by step_number s before after old new came_to → Stays table before after
+  attempt_stays (Some status) pictures home by step_number s before after old new came_to of attempts = as_before before after attempts.1
+  attempt_stays None pictures home by step_number s before after old new came_to of attempts = acts_stay pictures home by step_number s before after old new came_to of attempts

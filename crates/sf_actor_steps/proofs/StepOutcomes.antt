@@ -7,7 +7,7 @@ use Rattle.sf_actor.specs.Desks.{DeskHome, DeskView}
 use Rattle.sf_actor.specs.Tests.{refusal_of}
 use Rattle.sf_actor.specs.Tries.{ActorOf, past_of}
 use Rattle.sf_actor_steps.specs.Acting.{Acts}
-use Rattle.sf_actor_steps.specs.Coming.{Comes, IsReady}
+use Rattle.sf_actor_steps.specs.inner.Coming.{Comes, IsReady}
 use Rattle.sf_actor_steps.specs.declared.bindings.Bindings.{Bindings}
 use Rattle.sf_actor_steps.specs.declared.tried.Tried.{Tried}
 use Rattle.sf_actor_steps.proofs.DrawComings.{draw_comes}

@@ -21,7 +21,7 @@ use Rattle.sf_actor.specs.sf_turns.Views.{PermitView}
 use Rattle.sf_actor.specs.declared.holding.Holding.{Holding}
 use Rattle.sf_actor.specs.declared.holding.Holding.TheVariants as holding
 use Rattle.sf_actor.specs.Desks.{DeskHome, DeskView, MadeCall, WaitsForCall, has_queue, known_of, looks, mark_among}
-use Rattle.sf_actor.specs.Parts.{PartsOf}
+use Rattle.sf_actor.specs.Holdings.{HoldingsOf}
 use Rattle.sf_actor.specs.Scripts.{queue_of}
 use Rattle.sf_actor.specs.Tests.{refusal_of}
 use Rattle.sf_actor.specs.Tries.{ActorOf, NoSlot, past_of, turn_ended}
@@ -35,7 +35,7 @@ use Rattle.sf_actor.proofs.ReplyRecords.{acquire_tells, dequeue_tells}
 use Rattle.sf_actor_steps.specs.Acting.{Acts}
 use Rattle.sf_actor_steps.specs.Actors.{parts_of}
 use Rattle.sf_actor_steps.specs.Calling.{Ends, TriesCall, WaitsToCall, received, with_held, with_spare}
-use Rattle.sf_actor_steps.specs.Coming.{Comes, IsReady, LeftWith}
+use Rattle.sf_actor_steps.specs.inner.Coming.{Comes, IsReady, LeftWith}
 use Rattle.sf_actor_steps.specs.Forming.{TakesPermit, named, permits_of}
 use Rattle.sf_actor_steps.specs.declared.asking.Asking.{Asking}
 use Rattle.sf_actor_steps.specs.declared.bindings.Bindings.{Bindings}
@@ -66,7 +66,7 @@ module _ {B : Type 0} where
       let by = actor.script.number in
       let s : Step = step.Acquire q i at in
       let asked : QCall B = call.Acquire (unwrap_or at 0) in
-      let place : ℕ = length actor.trace + 1 in
+      let step_number : ℕ = length actor.trace + 1 in
       let asking : Asking B = named (queue_of q) i asked in
       let size = names_there pictures home actor before old s ready in
       let below = ready.playable.ranges.0.below in
@@ -74,7 +74,7 @@ module _ {B : Type 0} where
       let marking = marked home q ready.playable.queue in
       let queue = (mark_among home.marks q).queue in
       call_comes pictures home actor s before after after old old new asking came_to refl refl (unlooked home old)
-      (formed home by place makes.asking asking makes.taken before after old new came_to makes.forms.0 makes.forms.1 makes.tries)
+      (formed home by step_number makes.asking asking makes.taken before after old new came_to makes.forms.0 makes.forms.1 makes.tries)
       (λ reply called_view was made ends bindings.
       elim (acquire_keeps pictures actor q i at home old called_view reply ready.is_next ready.keeps.kept unrefused low below marking made) [
         | inl given ↦
@@ -83,7 +83,7 @@ module _ {B : Type 0} where
             kept_came pictures home actor s after called_view new queue asked reply (parts_with actor.parts i (Some now) actor.parts.stock)
             (λ told is. acquire_tells queue q i at (unwrap_or at 0) (past_of actor).holdings told reply is)
             refl (ap (λ (r : QReply B). r.ends) given.2) ends given.3
-            (ap (λ (h : Bindings B). parts_of h) (bindings ∙ ap (received asking.homes before) given.2) ∙ ap (λ (p : PartsOf B). parts_with p i (Some now) p.stock) (sym ready.parts))
+            (ap (λ (h : Bindings B). parts_of h) (bindings ∙ ap (received asking.homes before) given.2) ∙ ap (λ (p : HoldingsOf B). parts_with p i (Some now) p.stock) (sym ready.parts))
             (there_filled home actor.parts i now actor.parts.stock low ready.keeps.there
             (subst (λ (of : QueueId). has_queue home of.0 ≡ true) (sym (of_queue ∙ marking)) ready.playable.queue))
         | inr refused ↦
@@ -97,8 +97,8 @@ module _ {B : Type 0} where
   -- the permit that a dequeue took is there again where it comes back
   handed_back : (before taken : Bindings B) (permit : PermitView) → TakesPermit before taken permit → parts_of (with_spare taken (Some permit)) ≡ parts_of before
   handed_back before taken permit takes =
-      ap (λ (h : Bindings B). let p : PartsOf B = record { names = h.names; transactions = h.transactions; stock = permit.buffer ∷ taken.stock.buffers } in p) takes.same
-      ∙ ap (λ (stock : List ℕ). let p : PartsOf B = record { names = before.names; transactions = before.transactions; stock = stock } in p) (ap (λ (spare : Option PermitView). permit.buffer ∷ (spared spare ++ taken.stock.buffers)) (sym takes.none_spare) ∙ sym takes.one)
+      ap (λ (h : Bindings B). let p : HoldingsOf B = record { names = h.names; transactions = h.transactions; stock = permit.buffer ∷ taken.stock.buffers } in p) takes.same
+      ∙ ap (λ (stock : List ℕ). let p : HoldingsOf B = record { names = before.names; transactions = before.transactions; stock = stock } in p) (ap (λ (spare : Option PermitView). permit.buffer ∷ (spared spare ++ taken.stock.buffers)) (sym takes.none_spare) ∙ sym takes.one)
     where
       spared : Option PermitView → List ℕ
       spared spare = option_to_list (option_map (λ (p : PermitView). p.buffer) spare)
@@ -107,10 +107,10 @@ module _ {B : Type 0} where
   dequeued : (before taken : Bindings B) (permit : PermitView) (name : ℕ) (now : Holding B) (spare : Option PermitView) → TakesPermit before taken permit → (spare ≡ None) ⊎ (spare ≡ Some permit) → parts_of (with_spare (with_held taken name (Some now)) spare) ≡ parts_with (parts_of before) name (Some now) (stock_after (permits_of taken) permit spare)
   dequeued before taken permit name now spare takes (inl none) =
       subst (λ (left : Option PermitView). parts_of (with_spare (with_held taken name (Some now)) left) ≡ parts_with (parts_of before) name (Some now) (stock_after (permits_of taken) permit left)) (sym none)
-      (ap (λ (h : Bindings B). let p : PartsOf B = record { names = slice_set h.names name (Some now); transactions = h.transactions; stock = permits_of taken } in p) takes.same)
+      (ap (λ (h : Bindings B). let p : HoldingsOf B = record { names = slice_set h.names name (Some now); transactions = h.transactions; stock = permits_of taken } in p) takes.same)
   dequeued before taken permit name now spare takes (inr back) =
       subst (λ (left : Option PermitView). parts_of (with_spare (with_held taken name (Some now)) left) ≡ parts_with (parts_of before) name (Some now) (stock_after (permits_of taken) permit left)) (sym back)
-      (ap (λ (p : PartsOf B). parts_with p name (Some now) p.stock) (handed_back before taken permit takes)
+      (ap (λ (p : HoldingsOf B). parts_with p name (Some now) p.stock) (handed_back before taken permit takes)
       ∙ ap (λ (stock : List ℕ). parts_with (parts_of before) name (Some now) stock) takes.one)
 
   -- what the call of a dequeue came to, which may have asked to wait
@@ -123,7 +123,7 @@ module _ {B : Type 0} where
       let low : name < length actor.parts.names = omega (arith, names, below) in
       let marking = marked home q has in
       let queue = (mark_among home.marks q).queue in
-      let stock = ap (λ (p : PartsOf B). p.stock) ready.parts ∙ takes.one in
+      let stock = ap (λ (p : HoldingsOf B). p.stock) ready.parts ∙ takes.one in
       elim (dequeue_keeps pictures actor wait q name size permit (permits_of taken) home old called_view reply ready.is_next ready.keeps.kept unrefused stock low below marking made) [
         | inl given ↦
             let lends = given.1 in
@@ -133,7 +133,7 @@ module _ {B : Type 0} where
             unended (ap (λ (r : QReply B). r.ends) lends.replied) ends given.2
             (ap (λ (h : Bindings B). parts_of h) (bindings ∙ ap (received homes taken) lends.replied)
             ∙ dequeued before taken permit name now lends.spare takes lends.back
-            ∙ ap (λ (p : PartsOf B). parts_with p name (Some now) (stock_after (permits_of taken) permit lends.spare)) (sym ready.parts))
+            ∙ ap (λ (p : HoldingsOf B). parts_with p name (Some now) (stock_after (permits_of taken) permit lends.spare)) (sym ready.parts))
             (there_filled home actor.parts name now (stock_after (permits_of taken) permit lends.spare) low ready.keeps.there
             (subst (λ (of : QueueId). has_queue home of.0 ≡ true) (sym marking) has))
         | inr refused ↦

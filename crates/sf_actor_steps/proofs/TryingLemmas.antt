@@ -20,7 +20,7 @@ use Rattle.sf_actor.specs.Tests.{refusal_of}
 use Rattle.sf_actor.specs.Tries.{ActorOf, Keeps, next_step, past_of}
 use Rattle.sf_actor_steps.specs.Acting.{Attempts, MayAct}
 use Rattle.sf_actor_steps.specs.Actors.{Acts, IsActor, IsKept, Steps}
-use Rattle.sf_actor_steps.specs.Coming.{Comes, DoneWith, IsReady, LeftWith, after_step, is_done, reply_told}
+use Rattle.sf_actor_steps.specs.inner.Coming.{Comes, DoneWith, IsReady, LeftWith, after_step, is_done, reply_told}
 use Rattle.sf_actor_steps.specs.Bindings.{holdings_of}
 use Rattle.sf_actor_steps.specs.Playable.{IsPlayable, MayPlay}
 use Rattle.sf_actor_steps.specs.declared.actor.Actor.{Actor}
@@ -95,25 +95,25 @@ module _ {B : Type 0} where
     may_be_tried kept unrefused = may_try (picture_at pictures) table home kept.of old.bindings before s (ready_for kept.of kept.is kept.keeps) kept.is.of_table unrefused
 
     -- what the step came to, for each actor that fits
-    comes_for : (actor : ActorOf B) → IsActor table old actor → Keeps (picture_at pictures) home actor before → (left : Bindings B) (after : DeskView B) (place : ℕ) (came_to : Tried) → place ≡ length old.replies.items + 1 → Attempts (refusal_of (picture_at pictures) (holdings_of old.bindings) s) (picture_at pictures) home old.bindings.by.0 place s old.bindings left before after came_to → Comes (picture_at pictures) home actor left before after came_to
-    comes_for actor is keeps left after place came_to at attempts =
+    comes_for : (actor : ActorOf B) → IsActor table old actor → Keeps (picture_at pictures) home actor before → (left : Bindings B) (after : DeskView B) (step_number : ℕ) (came_to : Tried) → step_number ≡ length old.replies.items + 1 → Attempts (refusal_of (picture_at pictures) (holdings_of old.bindings) s) (picture_at pictures) home old.bindings.by.0 step_number s old.bindings left before after came_to → Comes (picture_at pictures) home actor left before after came_to
+    comes_for actor is keeps left after step_number came_to at attempts =
         let ready = ready_for actor is keeps in
         let told : holdings_of old.bindings ≡ (past_of actor).holdings = holds_told (picture_at pictures) table home actor old.bindings before s ready in
         let number : old.bindings.by.0 ≡ actor.script.number = is.by_it ∙ sym (ap (λ (script : ActorScript). script.number) is.script) in
-        let here : place ≡ length actor.trace + 1 = at ∙ ap (λ (n : ℕ). n + 1) (sym is.trace) in
+        let here : step_number ≡ length actor.trace + 1 = at ∙ ap (λ (n : ℕ). n + 1) (sym is.trace) in
         tries_come (picture_at pictures) home actor old.bindings left before after s came_to (refusal_of (picture_at pictures) (past_of actor).holdings s) refl ready
         (subst (λ (holdings : Holdings). Attempts (refusal_of (picture_at pictures) holdings s) (picture_at pictures) home actor.script.number (length actor.trace + 1) s old.bindings left before after came_to) told
         (subst (λ (by : ℕ). Attempts (refusal_of (picture_at pictures) (holdings_of old.bindings) s) (picture_at pictures) home by (length actor.trace + 1) s old.bindings left before after came_to) number
         (subst (λ (n : ℕ). Attempts (refusal_of (picture_at pictures) (holdings_of old.bindings) s) (picture_at pictures) home old.bindings.by.0 n s old.bindings left before after came_to) here attempts)))
 
-    stays_for : (actor : ActorOf B) → IsActor table old actor → (left : Bindings B) (after : DeskView B) (place : ℕ) (came_to : Tried) → Attempts (refusal_of (picture_at pictures) (holdings_of old.bindings) s) (picture_at pictures) home old.bindings.by.0 place s old.bindings left before after came_to → Stays table old.bindings left
-    stays_for actor is left after place came_to attempts =
-        attempt_stays table (refusal_of (picture_at pictures) (holdings_of old.bindings) s) (picture_at pictures) home old.bindings.by.0 place s old.bindings left before after came_to is.of_table attempts
+    stays_for : (actor : ActorOf B) → IsActor table old actor → (left : Bindings B) (after : DeskView B) (step_number : ℕ) (came_to : Tried) → Attempts (refusal_of (picture_at pictures) (holdings_of old.bindings) s) (picture_at pictures) home old.bindings.by.0 step_number s old.bindings left before after came_to → Stays table old.bindings left
+    stays_for actor is left after step_number came_to attempts =
+        attempt_stays table (refusal_of (picture_at pictures) (holdings_of old.bindings) s) (picture_at pictures) home old.bindings.by.0 step_number s old.bindings left before after came_to is.of_table attempts
 
     -- what the step did, for each actor that fits
-    acts_for : (actor : ActorOf B) → IsActor table old actor → (left : Bindings B) (after : DeskView B) (place : ℕ) (came_to : Tried) → place ≡ length old.replies.items + 1 → Attempts (refusal_of (picture_at pictures) (holdings_of old.bindings) s) (picture_at pictures) home old.bindings.by.0 place s old.bindings left before after came_to → (t : Step) → next_step actor ≡ Some t → Acts (picture_at pictures) home t (length actor.trace + 1) old.bindings before left after
-    acts_for actor is left after place came_to at attempts t next =
-        let here : place ≡ length actor.trace + 1 = at ∙ ap (λ (n : ℕ). n + 1) (sym is.trace) in
+    acts_for : (actor : ActorOf B) → IsActor table old actor → (left : Bindings B) (after : DeskView B) (step_number : ℕ) (came_to : Tried) → step_number ≡ length old.replies.items + 1 → Attempts (refusal_of (picture_at pictures) (holdings_of old.bindings) s) (picture_at pictures) home old.bindings.by.0 step_number s old.bindings left before after came_to → (t : Step) → next_step actor ≡ Some t → Acts (picture_at pictures) home t (length actor.trace + 1) old.bindings before left after
+    acts_for actor is left after step_number came_to at attempts t next =
+        let here : step_number ≡ length actor.trace + 1 = at ∙ ap (λ (n : ℕ). n + 1) (sym is.trace) in
         let same : s ≡ t = same_step s t (sym there ∙ sym (next_is actor is) ∙ next) in
         record {
           came_to = came_to;
@@ -129,10 +129,10 @@ module _ {B : Type 0} where
         next_is actor is = ap (λ (script : ActorScript). slice_get script.steps (length actor.trace)) is.script ∙ ap (slice_get old.script.steps) is.trace
 
     -- the step is not done
-    pub is_left : (actor : ActorOf B) → IsActor table old actor → Keeps (picture_at pictures) home actor before → (new : Actor B) (after : DeskView B) (place : ℕ) (came_to : Tried) → place ≡ length old.replies.items + 1 → Attempts (refusal_of (picture_at pictures) (holdings_of old.bindings) s) (picture_at pictures) home old.bindings.by.0 place s old.bindings new.bindings before after came_to → is_done came_to ≡ false → new.script ≡ old.script → new.replies.items ≡ old.replies.items → new.is_spent ≡ old.is_spent → Steps table (picture_at pictures) home old.bindings actor before new after stepped.NotYet
-    is_left actor is keeps new after place came_to at attempts undone script replies spent =
-        let left = left_so (picture_at pictures) home actor new.bindings before after came_to undone (comes_for actor is keeps new.bindings after place came_to at attempts) in
-        let stays = stays_for actor is new.bindings after place came_to attempts in
+    pub is_left : (actor : ActorOf B) → IsActor table old actor → Keeps (picture_at pictures) home actor before → (new : Actor B) (after : DeskView B) (step_number : ℕ) (came_to : Tried) → step_number ≡ length old.replies.items + 1 → Attempts (refusal_of (picture_at pictures) (holdings_of old.bindings) s) (picture_at pictures) home old.bindings.by.0 step_number s old.bindings new.bindings before after came_to → is_done came_to ≡ false → new.script ≡ old.script → new.replies.items ≡ old.replies.items → new.is_spent ≡ old.is_spent → Steps table (picture_at pictures) home old.bindings actor before new after stepped.NotYet
+    is_left actor is keeps new after step_number came_to at attempts undone script replies spent =
+        let left = left_so (picture_at pictures) home actor new.bindings before after came_to undone (comes_for actor is keeps new.bindings after step_number came_to at attempts) in
+        let stays = stays_for actor is new.bindings after step_number came_to attempts in
         record {
           new = actor;
           is = record {
@@ -148,16 +148,16 @@ module _ {B : Type 0} where
           };
           keeps = left.keeps;
           tries = left.leaves;
-          acts = acts_for actor is new.bindings after place came_to at attempts;
+          acts = acts_for actor is new.bindings after step_number came_to at attempts;
         }
 
     -- the step is done
-    pub is_made : (actor : ActorOf B) → IsActor table old actor → Keeps (picture_at pictures) home actor before → (new : Actor B) (after : DeskView B) (place : ℕ) (came_to : Tried) (reply : Reply) → place ≡ length old.replies.items + 1 → Attempts (refusal_of (picture_at pictures) (holdings_of old.bindings) s) (picture_at pictures) home old.bindings.by.0 place s old.bindings new.bindings before after came_to → is_done came_to ≡ true → reply ≡ reply_told old.script.number place came_to → new.script ≡ old.script → new.replies.items ≡ old.replies.items ++ reply ∷ [] → new.is_spent ≡ old.is_spent → Steps table (picture_at pictures) home old.bindings actor before new after stepped.Done
-    is_made actor is keeps new after place came_to reply at attempts done_now replied script replies spent =
-        let done = done_so (picture_at pictures) home actor new.bindings before after came_to done_now (comes_for actor is keeps new.bindings after place came_to at attempts) in
-        let stays = stays_for actor is new.bindings after place came_to attempts in
+    pub is_made : (actor : ActorOf B) → IsActor table old actor → Keeps (picture_at pictures) home actor before → (new : Actor B) (after : DeskView B) (step_number : ℕ) (came_to : Tried) (reply : Reply) → step_number ≡ length old.replies.items + 1 → Attempts (refusal_of (picture_at pictures) (holdings_of old.bindings) s) (picture_at pictures) home old.bindings.by.0 step_number s old.bindings new.bindings before after came_to → is_done came_to ≡ true → reply ≡ reply_told old.script.number step_number came_to → new.script ≡ old.script → new.replies.items ≡ old.replies.items ++ reply ∷ [] → new.is_spent ≡ old.is_spent → Steps table (picture_at pictures) home old.bindings actor before new after stepped.Done
+    is_made actor is keeps new after step_number came_to reply at attempts done_now replied script replies spent =
+        let done = done_so (picture_at pictures) home actor new.bindings before after came_to done_now (comes_for actor is keeps new.bindings after step_number came_to at attempts) in
+        let stays = stays_for actor is new.bindings after step_number came_to attempts in
         let told = reply_told actor.script.number (length actor.trace + 1) came_to in
-        let same : reply ≡ told = replied ∙ ap (λ (n : ℕ). reply_told n place came_to) (sym (ap (λ (all : ActorScript). all.number) is.script)) ∙ ap (λ (n : ℕ). reply_told actor.script.number n came_to) (at ∙ ap (λ (n : ℕ). n + 1) (sym is.trace)) in
+        let same : reply ≡ told = replied ∙ ap (λ (n : ℕ). reply_told n step_number came_to) (sym (ap (λ (all : ActorScript). all.number) is.script)) ∙ ap (λ (n : ℕ). reply_told actor.script.number n came_to) (at ∙ ap (λ (n : ℕ). n + 1) (sym is.trace)) in
         let joined : new.replies.items ≡ old.replies.items ++ told ∷ [] = replies ∙ ap (λ (r : Reply). old.replies.items ++ r ∷ []) same in
         record {
           new = after_step actor new.bindings done.done told;
@@ -179,7 +179,7 @@ module _ {B : Type 0} where
           };
           keeps = done.keeps;
           tries = (told, done.does);
-          acts = acts_for actor is new.bindings after place came_to at attempts;
+          acts = acts_for actor is new.bindings after step_number came_to at attempts;
         }
 
   -- no step is left

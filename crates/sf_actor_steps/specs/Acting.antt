@@ -47,25 +47,28 @@ pub record Changes {B : Type 0} (Changed : Type 0) (old new : DeskView B) (came_
 
 module _ {B : Type 0} where
   abbrev pub Acts : (ℕ → Picture) → DeskHome → ℕ → ℕ → Step → Bindings B → Bindings B → DeskView B → DeskView B → Tried → Type 0
-  Acts pictures home by place (step.Disconnect queue) before after old new came_to = Disconnects pictures home by place (step.Disconnect queue) queue before after old new came_to
-  Acts pictures home by place (step.PDetach from to) before after old new came_to =
-      TriesToLeave pictures home by place (step.PDetach from to) (requested_fence (name_in (holdings_of before) from)) before after old new came_to
-  Acts pictures home by place (step.CDetach from to) before after old new came_to =
-      TriesToLeave pictures home by place (step.CDetach from to) (frame_fence (name_in (holdings_of before) from)) before after old new came_to
-  Acts pictures home by place (step.Draw name picture) before after old new came_to = Draws home name (pictures picture) before after old new came_to
-  Acts pictures home by place (step.Signal timeline value) before after old new came_to = Signals timeline value before after old new came_to
-  Acts pictures home by place (step.Wait timeline value) before after old new came_to = Waits home timeline value before after old new came_to
-  Acts pictures home by place (step.Tx number) before after old new came_to = Changes (after ≡ with_txn before number (Some empty)) old new came_to
-  Acts pictures home by place (step.Desire number time) before after old new came_to =
+  Acts pictures home by step_number (step.Disconnect queue) before after old new came_to =
+      Disconnects pictures home by step_number (step.Disconnect queue) queue before after old new came_to
+  Acts pictures home by step_number (step.PDetach from to) before after old new came_to =
+      TriesToLeave pictures home by step_number (step.PDetach from to) (requested_fence (name_in (holdings_of before) from)) before after old new came_to
+  Acts pictures home by step_number (step.CDetach from to) before after old new came_to =
+      TriesToLeave pictures home by step_number (step.CDetach from to) (frame_fence (name_in (holdings_of before) from)) before after old new came_to
+  Acts pictures home by step_number (step.Draw name picture) before after old new came_to = Draws home name (pictures picture) before after old new came_to
+  Acts pictures home by step_number (step.Signal timeline value) before after old new came_to = Signals timeline value before after old new came_to
+  Acts pictures home by step_number (step.Wait timeline value) before after old new came_to = Waits home timeline value before after old new came_to
+  Acts pictures home by step_number (step.Tx number) before after old new came_to = Changes (after ≡ with_txn before number (Some empty)) old new came_to
+  Acts pictures home by step_number (step.Desire number time) before after old new came_to =
       Changes (Edits before after number (λ txn. record txn { desired = Some time })) old new came_to
-  Acts pictures home by place (step.Barrier number layer frame) before after old new came_to =
+  Acts pictures home by step_number (step.Barrier number layer frame) before after old new came_to =
       Changes (Edits before after number (λ txn. record txn { barriers = txn.barriers ++ (layer_of layer, frame) ∷ [] })) old new came_to
-  Acts pictures home by place (step.Set number layer change) before after old new came_to =
+  Acts pictures home by step_number (step.Set number layer change) before after old new came_to =
       Changes (Edits before after number (λ txn. set txn (layer_of layer, op_of change))) old new came_to
-  Acts pictures home by place (step.Buffer number layer name) before after old new came_to = (came_to ≡ tried.Own 0) × Shows home by place number layer name before after old new
-  Acts pictures home by place (step.Merge number other) before after old new came_to = (came_to ≡ tried.Own 0) × Merges home by place number other before after old new
-  Acts pictures home by place (step.Apply number token) before after old new came_to = TriesSend home by place number token before after old new came_to
-  Acts pictures home by place s before after old new came_to = MakesCall pictures home by place s before after old new came_to
+  Acts pictures home by step_number (step.Buffer number layer name) before after old new came_to =
+      (came_to ≡ tried.Own 0) × Shows home by step_number number layer name before after old new
+  Acts pictures home by step_number (step.Merge number other) before after old new came_to =
+      (came_to ≡ tried.Own 0) × Merges home by step_number number other before after old new
+  Acts pictures home by step_number (step.Apply number token) before after old new came_to = TriesSend home by step_number number token before after old new came_to
+  Acts pictures home by step_number s before after old new came_to = MakesCall pictures home by step_number s before after old new came_to
 
   -- what a step needs that none of its own tests refuses
   abbrev pub MayAct : (ℕ → Picture) → TableId → DeskHome → Step → Bindings B → Type 0
@@ -106,5 +109,5 @@ module _ {B : Type 0} where
 
   -- what a try of a step comes to, by the status of the first of its own tests that is met
   abbrev pub Attempts : Option ℕ → (ℕ → Picture) → DeskHome → ℕ → ℕ → Step → Bindings B → Bindings B → DeskView B → DeskView B → Tried → Type 0
-  Attempts (Some status) pictures home by place s before after old new came_to = (came_to ≡ tried.Own status) × (after ≡ before) × (new ≡ old)
-  Attempts None pictures home by place s before after old new came_to = Acts pictures home by place s before after old new came_to
+  Attempts (Some status) pictures home by step_number s before after old new came_to = (came_to ≡ tried.Own status) × (after ≡ before) × (new ≡ old)
+  Attempts None pictures home by step_number s before after old new came_to = Acts pictures home by step_number s before after old new came_to

@@ -11,7 +11,7 @@ use Rattle.sf_actor.specs.sf_turns.Views.{StockView}
 use Rattle.sf_actor.specs.declared.tried.Stepped.{Stepped}
 use Rattle.sf_actor.specs.Desks.{DeskHome, DeskView, known_of}
 use Rattle.sf_actor.specs.Known.{share_of}
-use Rattle.sf_actor.specs.Parts.{PartsOf}
+use Rattle.sf_actor.specs.Holdings.{HoldingsOf}
 use Rattle.sf_actor.specs.Tests.{refusal_of}
 use Rattle.sf_actor.specs.Tries.{ActorOf, Keeps, Tries, dequeues_in, next_step}
 use Rattle.sf_actor_steps.specs.Acting.{Attempts}
@@ -28,7 +28,7 @@ sends _ = false
 
 module _ {B : Type 0} where
   -- what an actor has in its bindings, with the numbers of the buffers that it may still open
-  abbrev pub parts_of : Bindings B → PartsOf B
+  abbrev pub parts_of : Bindings B → HoldingsOf B
   parts_of bindings = record { names = bindings.names; transactions = bindings.transactions; stock = permits_of bindings }
 
   -- bindings that hold nothing but a stock
@@ -80,10 +80,10 @@ module _ {B : Type 0} where
     pub keeps : Keeps pictures home of view
 
   -- what a try of a step did with the tokens in its actor's bindings, with calls and with turns
-  pub record Acts (pictures : ℕ → Picture) (home : DeskHome) (next : Step) (place : ℕ)
+  pub record Acts (pictures : ℕ → Picture) (home : DeskHome) (next : Step) (step_number : ℕ)
       (was : Bindings B) (before : DeskView B) (bindings : Bindings B) (after : DeskView B) : Type 0 where
     pub came_to : Tried
-    pub attempts : Attempts (refusal_of pictures (holdings_of was) next) pictures home was.by.0 place next was bindings before after came_to
+    pub attempts : Attempts (refusal_of pictures (holdings_of was) next) pictures home was.by.0 step_number next was bindings before after came_to
 
   -- what a try of its next step comes to: it keeps what it keeps, and tells what it did; its bindings were these before
   pub record Steps (table : TableId) (pictures : ℕ → Picture) (home : DeskHome) (was : Bindings B) (old : ActorOf B) (before : DeskView B)

@@ -6,7 +6,7 @@ use Rattle.sf_actor.specs.sf_surface.Tokens.{OwingOf, ReadLeaseOf, WriteLeaseOf}
 use Rattle.sf_actor.specs.sf_surface.Calls.{write_token}
 use Rattle.sf_actor.specs.Known.{frame_of}
 use Rattle.sf_actor.specs.Names.{Frame, Holdings, Lent, Owing, Token}
-use Rattle.sf_actor.specs.Parts.{drawn_picture, plain_of}
+use Rattle.sf_actor.specs.Holdings.{drawn_picture, plain_of}
 use Rattle.sf_actor_steps.specs.declared.bindings.Bindings.{Bindings}
 
 -- what names and transaction numbers hold, as a trace tells it

@@ -47,19 +47,19 @@ module _ {B : Type 0} where
   Ends (Some ending) old new = Leaves old.turns ending.turn.buffer ending.turn.number new.turns × ChangesTurns old new
 
   -- a call that was made, and one that waits
-  pub record Calls (home : DeskHome) (by place : ℕ) (asking : Asking B) (before after : Bindings B) (old new : DeskView B) (reply : QReply B) : Type 0 where
+  pub record Calls (home : DeskHome) (by step_number : ℕ) (asking : Asking B) (before after : Bindings B) (old new : DeskView B) (reply : QReply B) : Type 0 where
     pub made_view : DeskView B
-    pub made : MadeCall home old made_view by asking.queue.0 (place, asking.call) reply
+    pub made : MadeCall home old made_view by asking.queue.0 (step_number, asking.call) reply
     pub ends : Ends reply.ends made_view new
     pub bindings : after ≡ received asking.homes before reply
 
-  pub record WaitsToCall (home : DeskHome) (by place : ℕ) (asking : Asking B) (before after : Bindings B) (old new : DeskView B) : Type 0 where
-    pub waits : WaitsForCall home old new by asking.queue.0 (place, asking.call)
+  pub record WaitsToCall (home : DeskHome) (by step_number : ℕ) (asking : Asking B) (before after : Bindings B) (old new : DeskView B) : Type 0 where
+    pub waits : WaitsForCall home old new by asking.queue.0 (step_number, asking.call)
     pub bindings : after ≡ taken_back asking.homes before asking.call
 
   -- what a try of a call came to
   abbrev pub TriesCall : DeskHome → ℕ → ℕ → Asking B → Bindings B → Bindings B → DeskView B → DeskView B → Tried → Type 0
-  TriesCall home by place asking before after old new (tried.Called status values) =
-      (reply : QReply B) × (reply.status ≡ status) × (reply.values ≡ values) × Calls home by place asking before after old new reply
-  TriesCall home by place asking before after old new tried.NotYet = WaitsToCall home by place asking before after old new
-  TriesCall home by place asking before after old new other = ⊥
+  TriesCall home by step_number asking before after old new (tried.Called status values) =
+      (reply : QReply B) × (reply.status ≡ status) × (reply.values ≡ values) × Calls home by step_number asking before after old new reply
+  TriesCall home by step_number asking before after old new tried.NotYet = WaitsToCall home by step_number asking before after old new
+  TriesCall home by step_number asking before after old new other = ⊥

@@ -11,12 +11,12 @@ use Rattle.sf_actor_steps.specs.declared.bindings.Bindings.{Bindings}
 use Rattle.sf_actor_steps.specs.declared.tried.Tried.{Tried}
 
 -- it makes the step's call, with tokens out of the bindings
-pub record MakesCall {B : Type 0} (pictures : ℕ → Picture) (home : DeskHome) (by place : ℕ) (s : Step)
+pub record MakesCall {B : Type 0} (pictures : ℕ → Picture) (home : DeskHome) (by step_number : ℕ) (s : Step)
     (before after : Bindings B) (old new : DeskView B) (tried : Tried) : Type 0 where
   pub taken : Bindings B
   pub asking : Asking B
   pub forms : FormsCall pictures s before taken asking
-  pub tries : TriesCall home by place asking taken after old new tried
+  pub tries : TriesCall home by step_number asking taken after old new tried
 
 -- the queue of a lent buffer or of a frame is there
 abbrev pub HasQueueOf : DeskHome → Option Token → Type 0

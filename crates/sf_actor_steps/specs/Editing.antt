@@ -53,16 +53,17 @@ module _ {B : Type 0} where
     pub put_back : after ≡ with_txn without number (Some (change edited))
 
   -- a frame is given back, with its own fence; where its queue refuses that, it is let go
-  pub record Releases (home : DeskHome) (by place : ℕ) (lease : ReadLeaseOf) (old new : DeskView B) : Type 0 where
+  pub record Releases (home : DeskHome) (by step_number : ℕ) (lease : ReadLeaseOf) (old new : DeskView B) : Type 0 where
     pub reply : QReply B
     pub released : DeskView B
-    pub made : MadeCall home old released by lease.queue.0 (place, call.Release lease (with_points_of no_points lease.fence)) reply
+    pub made : MadeCall home old released by lease.queue.0 (step_number, call.Release lease (with_points_of no_points lease.fence)) reply
     pub ends : Ends reply.ends released new
 
   -- the frames of buffers are given back, one after another
   abbrev pub ReleasesAll : DeskHome → ℕ → ℕ → List (Buffer ReadLeaseOf) → DeskView B → DeskView B → Type 0
-  ReleasesAll home by place [] old new = new ≡ old
-  ReleasesAll home by place (buffer ∷ later) old new = (next : DeskView B) × Releases home by place buffer.lease old next × ReleasesAll home by place later next new
+  ReleasesAll home by step_number [] old new = new ≡ old
+  ReleasesAll home by step_number (buffer ∷ later) old new =
+      (next : DeskView B) × Releases home by step_number buffer.lease old next × ReleasesAll home by step_number later next new
 
   -- a name holds a frame that its queue showed
   abbrev pub HoldsShown : Option (Holding B) → Type 0
@@ -70,15 +71,15 @@ module _ {B : Type 0} where
   HoldsShown held = ⊥
 
   -- a frame goes from its name into a transaction, and the one whose place it takes is given back
-  pub record Shows (home : DeskHome) (by place number layer name : ℕ) (before after : Bindings B) (old new : DeskView B) : Type 0 where
+  pub record Shows (home : DeskHome) (by step_number number layer name : ℕ) (before after : Bindings B) (old new : DeskView B) : Type 0 where
     pub lease : ReadLeaseOf
     pub without_frame : Bindings B
     pub takes : Takes before without_frame name (holding.Reads lease)
     pub edits : Edits without_frame after number (λ txn. set_buffer txn (buffer_with layer lease))
-    pub releases : ReleasesAll home by place (option_to_list (replaced_by edits.edited.buffers (buffer_with layer lease))) old new
+    pub releases : ReleasesAll home by step_number (option_to_list (replaced_by edits.edited.buffers (buffer_with layer lease))) old new
 
   -- one transaction is merged into another and is empty then, and the frames whose places others take are given back
-  pub record Merges (home : DeskHome) (by place number other : ℕ) (before after : Bindings B) (old new : DeskView B) : Type 0 where
+  pub record Merges (home : DeskHome) (by step_number number other : ℕ) (before after : Bindings B) (old new : DeskView B) : Type 0 where
     pub into : Contents ReadLeaseOf
     pub from : Contents ReadLeaseOf
     pub without_into : Bindings B
@@ -86,14 +87,14 @@ module _ {B : Type 0} where
     pub takes_into : TakesTxn before without_into number into
     pub takes_from : TakesTxn without_into without_both other from
     pub put_back : after ≡ with_txn (with_txn without_both number (Some (merged into from))) other (Some empty)
-    pub releases : ReleasesAll home by place (all_replaced into.buffers from.buffers) old new
+    pub releases : ReleasesAll home by step_number (all_replaced into.buffers from.buffers) old new
 
   -- a transaction is sent under an apply token
-  pub record Sends (home : DeskHome) (by place number token : ℕ) (before after : Bindings B) (old new : DeskView B) (arrival : ℕ) : Type 0 where
+  pub record Sends (home : DeskHome) (by step_number number token : ℕ) (before after : Bindings B) (old new : DeskView B) (arrival : ℕ) : Type 0 where
     pub sent : Contents ReadLeaseOf
     pub takes : TakesTxn before after number sent
-    pub made : MadeSend home old new by place (record sent { token = record { 0 = token } }) arrival
+    pub made : MadeSend home old new by step_number (record sent { token = record { 0 = token } }) arrival
 
   abbrev pub TriesSend : DeskHome → ℕ → ℕ → ℕ → ℕ → Bindings B → Bindings B → DeskView B → DeskView B → Tried → Type 0
-  TriesSend home by place number token before after old new (tried.Sent arrival) = Sends home by place number token before after old new arrival
-  TriesSend home by place number token before after old new other = ⊥
+  TriesSend home by step_number number token before after old new (tried.Sent arrival) = Sends home by step_number number token before after old new arrival
+  TriesSend home by step_number number token before after old new other = ⊥

@@ -39,9 +39,9 @@ module _ {B : Type 0} where
   -- the step is refused by its fence, or it makes its call
   abbrev pub TriesToLeave : (ℕ → Picture) → DeskHome → ℕ → ℕ → Step → Option Fence → Bindings B → Bindings B → DeskView B → DeskView B
       → Tried → Type 0
-  TriesToLeave pictures home by place s fence before after old new (tried.Own status) = (status ≡ 11) × (after ≡ before) × FindsOpen home fence old new
-  TriesToLeave pictures home by place s fence before after old new other =
-      (looked : DeskView B) × LooksFor home fence old looked × MakesCall pictures home by place s before after looked new other
+  TriesToLeave pictures home by step_number s fence before after old new (tried.Own status) = (status ≡ 11) × (after ≡ before) × FindsOpen home fence old new
+  TriesToLeave pictures home by step_number s fence before after old new other =
+      (looked : DeskView B) × LooksFor home fence old looked × MakesCall pictures home by step_number s before after looked new other
 
   -- a name without the lent buffer of this queue, if it holds one
   abbrev pub unless_lent : ℕ → Holding B → Option (Holding B)
@@ -66,8 +66,8 @@ module _ {B : Type 0} where
   dropped_after queue came_to bindings = if was_ok came_to then without_lent queue bindings else bindings
 
   -- a disconnect makes its call, and drops what the queue lent where it is done
-  pub record Disconnects (pictures : ℕ → Picture) (home : DeskHome) (by place : ℕ) (s : Step) (queue : ℕ)
+  pub record Disconnects (pictures : ℕ → Picture) (home : DeskHome) (by step_number : ℕ) (s : Step) (queue : ℕ)
       (before after : Bindings B) (old new : DeskView B) (tried : Tried) : Type 0 where
     pub called : Bindings B
-    pub makes : MakesCall pictures home by place s before called old new tried
+    pub makes : MakesCall pictures home by step_number s before called old new tried
     pub drops : after ≡ dropped_after queue tried called

@@ -8,7 +8,7 @@ pub mod Editing
 pub mod Actors
 pub mod Acting
 pub mod Playable
-pub mod Coming
+pub mod inner
 pub use Rattle.sf_actor.specs as sf_actor
 pub use Rattle.sf_actor.specs.sf_calls
 pub use Rattle.sf_actor.specs.sf_layer

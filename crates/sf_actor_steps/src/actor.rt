@@ -1,9 +1,10 @@
+//! An actor with the steps of its script: a player or a thread tries the next one here, again and
+//! again until it is done.
 use crate::bindings::Bindings;
 use crate::tried::{Tried, reply_to};
-use sf_actor::sf_picture::{Painted, Picture};
-use sf_actor::sf_script_scene::{ActorScript, Step};
-use sf_actor::sf_turns::{Stock, TableName};
-use sf_actor::{Desk, Reply, Stepped, TokensOf};
+use sf_actor::{
+    ActorScript, Desk, Painted, Picture, Reply, Step, Stepped, Stock, TableName, TokensOf,
+};
 use sf_base::{ActorId, NoMemory};
 use std::alloc::Global;
 
@@ -29,7 +30,7 @@ impl<B: TableName> Bindings<B> {
         &mut self,
         desk: &mut D,
         pictures: &[Picture],
-        place: u32,
+        step_number: u32,
         step: &Step,
     ) -> Result<Tried, NoMemory>
         requires served { (D.home desk.old).serves self.old.by.0 ≡ true }
@@ -37,12 +38,12 @@ impl<B: TableName> Bindings<B> {
         requires may { refusal_of (picture_at pictures.now) (holdings_of self.old) step.now ≡ None
             → MayAct (picture_at pictures.now) B.table (D.home desk.old) step.now self.old }
         ensures attempts { IfOk result (Attempts (refusal_of (picture_at pictures.now) (holdings_of self.old) step.now) (picture_at pictures.now)
-            (D.home desk.old) self.old.by.0 place step.now self.old self.new (D.view desk.old) (D.view desk.new)) }
+            (D.home desk.old) self.old.by.0 step_number step.now self.old self.new (D.view desk.old) (D.view desk.new)) }
         ensures home { D.home desk.new ≡ D.home desk.old }
     {
         match self.refusal(pictures, step) {
             Some(status) => Ok(Tried::Own(status)),
-            None => self.act(desk, pictures, place, step),
+            None => self.act(desk, pictures, step_number, step),
         }
     }
 }
@@ -147,12 +148,12 @@ impl<B: TableName> Actor<B> {
         };
         self.replies.reserve(1)?;
         let room = Vec::with_capacity(self.bindings.alloc, 1)?;
-        let place = done as u32 + 1;
-        let tried = self.bindings.attempt(desk, pictures, place, step)?;
+        let step_number = done as u32 + 1;
+        let tried = self.bindings.attempt(desk, pictures, step_number, step)?;
         if !tried.is_done() {
             return Ok(Stepped::NotYet);
         }
-        let reply = reply_to(self.script.number, place, tried, room);
+        let reply = reply_to(self.script.number, step_number, tried, room);
         self.replies.push_reserved(reply);
         Ok(Stepped::Done)
     }

@@ -1,14 +1,11 @@
+//! From a step to the call that it makes on a queue, and where the tokens of that call go.
 ghost use Rattle.std.specs.Prelude.{◌≡◌, IfOk};
 ghost use Rattle.sf_base.specs.Fences.{merged};
 ghost use Rattle.sf_actor.specs.sf_surface.declared.call.QCall.TheVariants as call;
 ghost use Rattle.sf_actor.specs.Scripts.{crop_of, fence_of};
 ghost use Rattle.sf_actor_steps.specs.Forming.{ArePoints, IsCrop, cancel_fence, joining, moving, named};
 
-use sf_actor::sf_picture::Picture;
-use sf_actor::sf_script_scene::Points;
-use sf_actor::sf_slots::Held;
-use sf_actor::sf_surface::{QCall, ReadLease, Work, WriteLease};
-use sf_actor::sf_turns::TableName;
+use sf_actor::{Held, Picture, Points, QCall, ReadLease, TableName, Work, WriteLease};
 use sf_base::{Fence, NoMemory, QueueId, Rect, TimelineId};
 use std::alloc::Global;
 

@@ -1,9 +1,6 @@
+//! What an actor's names and transaction numbers hold, and the permits that it has left.
 use crate::table::Table;
-use sf_actor::Holding;
-use sf_actor::sf_picture::Painted;
-use sf_actor::sf_surface::ReadLease;
-use sf_actor::sf_turns::{Permit, Stock, TableName};
-use sf_actor::sf_txn::Transaction;
+use sf_actor::{Holding, Painted, Permit, ReadLease, Stock, TableName, Transaction};
 use sf_base::{ActorId, NoMemory};
 use std::alloc::Global;
 

@@ -1,3 +1,5 @@
+//! How a step makes its one call on a queue: it brings the tokens, and puts what comes back under
+//! names.
 ghost use Rattle.std.specs.Prelude.{◌≡◌};
 ghost use Rattle.sf_actor.specs.sf_surface.Hands.{brought};
 ghost use Rattle.sf_actor_steps.specs.Calling.{Ends};
@@ -5,11 +7,9 @@ ghost use Rattle.sf_actor_steps.specs.Calling.{Ends};
 use crate::asking::{Asking, Homes};
 use crate::bindings::Bindings;
 use crate::tried::Tried;
-use sf_actor::sf_calls::CallFault;
-use sf_actor::sf_picture::Painted;
-use sf_actor::sf_surface::{Ending, Gives, QCall, QReply};
-use sf_actor::sf_turns::{Permit, TableName};
-use sf_actor::{Desk, Holding, TokensOf};
+use sf_actor::{
+    CallFault, Desk, Ending, Gives, Holding, Painted, Permit, QCall, QReply, TableName, TokensOf,
+};
 use sf_base::NoMemory;
 
 /// What a queue call brought, as what it would give.
@@ -116,17 +116,17 @@ impl<B: TableName> Bindings<B> {
     pub fn ask<D: Desk<TokensOf<B>>>(
         &mut self,
         desk: &mut D,
-        place: u32,
+        step_number: u32,
         asking: Asking<B>,
     ) -> Result<Tried, NoMemory>
         requires served { (D.home desk.old).serves self.old.by.0 ≡ true }
         requires there { has_queue (D.home desk.old) asking.queue.0 ≡ true }
         requires permit { PermitFits B.table asking.call }
-        ensures tries { IfOk result (TriesCall (D.home desk.old) self.old.by.0 place asking self.old self.new (D.view desk.old) (D.view desk.new)) }
+        ensures tries { IfOk result (TriesCall (D.home desk.old) self.old.by.0 step_number asking self.old self.new (D.view desk.old) (D.view desk.new)) }
         ensures home { D.home desk.new ≡ D.home desk.old }
     {
         let Asking { queue, call, homes } = asking;
-        match desk.call(self.by, queue, place, call) {
+        match desk.call(self.by, queue, step_number, call) {
             Ok(reply) => Ok(self.receive(desk, homes, reply)),
             Err(CallFault::NotYet(call)) => {
                 self.take_back(homes, call);

@@ -1,10 +1,8 @@
+//! The steps of a consumer: they acquire, release and attach buffers, and give a queue up.
 use crate::asking::{fence_of, joining, named, release};
 use crate::bindings::Bindings;
 use crate::tried::Tried;
-use sf_actor::sf_script_scene::Points;
-use sf_actor::sf_surface::QCall;
-use sf_actor::sf_turns::TableName;
-use sf_actor::{Desk, TokensOf};
+use sf_actor::{Desk, Points, QCall, TableName, TokensOf};
 use sf_base::{NoMemory, QueueId};
 
 impl<B: TableName> Bindings<B> {
@@ -21,40 +19,44 @@ impl<B: TableName> Bindings<B> {
     pub fn limit_acquired<D: Desk<TokensOf<B>>>(
         &mut self,
         desk: &mut D,
-        place: u32,
+        step_number: u32,
         queue: u32,
         n: u32,
     ) -> Result<Tried, NoMemory>
         requires served { (D.home desk.old).serves self.old.by.0 ≡ true }
         requires there { has_queue (D.home desk.old) queue ≡ true }
         ensures makes { IfOk result (λ tried. (pictures : ℕ → Picture) → MakesCall pictures
-            (D.home desk.old) self.old.by.0 place (step.MaxAcquired queue n) self.old self.new (D.view desk.old) (D.view desk.new) tried) }
+            (D.home desk.old) self.old.by.0 step_number (step.MaxAcquired queue n) self.old self.new (D.view desk.old) (D.view desk.new) tried) }
         ensures home { D.home desk.new ≡ D.home desk.old }
     {
-        self.ask(desk, place, named(QueueId(queue), 0, QCall::MaxAcquired(n)))
+        self.ask(
+            desk,
+            step_number,
+            named(QueueId(queue), 0, QCall::MaxAcquired(n)),
+        )
     }
 
     /// Abandons a queue, as its consumer.
     pub fn abandon<D: Desk<TokensOf<B>>>(
         &mut self,
         desk: &mut D,
-        place: u32,
+        step_number: u32,
         queue: u32,
     ) -> Result<Tried, NoMemory>
         requires served { (D.home desk.old).serves self.old.by.0 ≡ true }
         requires there { has_queue (D.home desk.old) queue ≡ true }
         ensures makes { IfOk result (λ tried. (pictures : ℕ → Picture) → MakesCall pictures
-            (D.home desk.old) self.old.by.0 place (step.Abandon queue) self.old self.new (D.view desk.old) (D.view desk.new) tried) }
+            (D.home desk.old) self.old.by.0 step_number (step.Abandon queue) self.old self.new (D.view desk.old) (D.view desk.new) tried) }
         ensures home { D.home desk.new ≡ D.home desk.old }
     {
-        self.ask(desk, place, named(QueueId(queue), 0, QCall::Abandon))
+        self.ask(desk, step_number, named(QueueId(queue), 0, QCall::Abandon))
     }
 
     /// Lets a name hold the frame in front of a queue.
     pub fn acquire<D: Desk<TokensOf<B>>>(
         &mut self,
         desk: &mut D,
-        place: u32,
+        step_number: u32,
         queue: u32,
         name: u32,
         at: Option<u64>,
@@ -62,12 +64,12 @@ impl<B: TableName> Bindings<B> {
         requires served { (D.home desk.old).serves self.old.by.0 ≡ true }
         requires there { has_queue (D.home desk.old) queue ≡ true }
         ensures makes { IfOk result (λ tried. (pictures : ℕ → Picture) → MakesCall pictures
-            (D.home desk.old) self.old.by.0 place (step.Acquire queue name at) self.old self.new (D.view desk.old) (D.view desk.new) tried) }
+            (D.home desk.old) self.old.by.0 step_number (step.Acquire queue name at) self.old self.new (D.view desk.old) (D.view desk.new) tried) }
         ensures home { D.home desk.new ≡ D.home desk.old }
     {
         self.ask(
             desk,
-            place,
+            step_number,
             named(QueueId(queue), name, QCall::Acquire(at.unwrap_or(0))),
         )
     }
@@ -76,7 +78,7 @@ impl<B: TableName> Bindings<B> {
     pub fn release<D: Desk<TokensOf<B>>>(
         &mut self,
         desk: &mut D,
-        place: u32,
+        step_number: u32,
         name: u32,
         points: &Points,
     ) -> Result<Tried, NoMemory>
@@ -85,20 +87,20 @@ impl<B: TableName> Bindings<B> {
         requires there { HasQueueOf (D.home desk.old) (name_in (holdings_of self.old) name) }
         requires points { ArePoints points.now }
         ensures makes { IfOk result (λ tried. (pictures : ℕ → Picture) → MakesCall pictures
-            (D.home desk.old) self.old.by.0 place (step.Release name points.now) self.old self.new (D.view desk.old) (D.view desk.new) tried) }
+            (D.home desk.old) self.old.by.0 step_number (step.Release name points.now) self.old self.new (D.view desk.old) (D.view desk.new) tried) }
         ensures home { D.home desk.new ≡ D.home desk.old }
     {
         let lease = self.take_frame(name);
         let fence = fence_of(self.alloc, points)?;
         let asking = release(self.alloc, name, lease, fence)?;
-        self.ask(desk, place, asking)
+        self.ask(desk, step_number, asking)
     }
 
     /// Puts a loose buffer into a queue, held by its consumer.
     pub fn attach_read<D: Desk<TokensOf<B>>>(
         &mut self,
         desk: &mut D,
-        place: u32,
+        step_number: u32,
         queue: u32,
         from: u32,
         to: u32,
@@ -107,13 +109,13 @@ impl<B: TableName> Bindings<B> {
         requires there { has_queue (D.home desk.old) queue ≡ true }
         requires apart { is_apart (name_in (holdings_of self.old) from) ≡ true }
         ensures makes { IfOk result (λ tried. (pictures : ℕ → Picture) → MakesCall pictures
-            (D.home desk.old) self.old.by.0 place (step.CAttach queue from to) self.old self.new (D.view desk.old) (D.view desk.new) tried) }
+            (D.home desk.old) self.old.by.0 step_number (step.CAttach queue from to) self.old self.new (D.view desk.old) (D.view desk.new) tried) }
         ensures home { D.home desk.new ≡ D.home desk.old }
     {
         let (last, loose) = self.take_free(from);
         self.ask(
             desk,
-            place,
+            step_number,
             joining(QueueId(queue), from, to, last, QCall::AttachRead(loose)),
         )
     }

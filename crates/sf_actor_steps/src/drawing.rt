@@ -1,3 +1,4 @@
+//! The steps that draw, and looks at the timelines, which several steps make.
 ghost use Rattle.std.specs.Prelude.{◌≡◌, ◌-◌, ◌<◌, ◌≤◌, slice_index, nat_lt};
 ghost use Rattle.sf_actor.specs.Desks.{ChangesTimes};
 ghost use Rattle.sf_actor.specs.Tries.{Sees};
@@ -5,11 +6,7 @@ ghost use Rattle.sf_actor.specs.sf_times.Seats.{raised};
 
 use crate::bindings::Bindings;
 use crate::tried::Tried;
-use sf_actor::sf_picture::Picture;
-use sf_actor::sf_slots::Held;
-use sf_actor::sf_surface::{DrawFault, Owing, WriteLease};
-use sf_actor::sf_turns::TableName;
-use sf_actor::{Desk, Holding, TokensOf};
+use sf_actor::{Desk, DrawFault, Held, Holding, Owing, Picture, TableName, TokensOf, WriteLease};
 use sf_base::{NoMemory, Seen, TimelineId};
 
 /// Looks at the timelines.

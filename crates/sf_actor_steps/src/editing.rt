@@ -1,3 +1,5 @@
+//! The steps that fill, merge and send transactions: frames leave an actor's names here for the
+//! compositor.
 ghost use Rattle.std.specs.Prelude.{◌≡◌, ◌≢◌, ◌≤◌, true, IfOk, OnOk};
 ghost use Rattle.std.specs.List.{All};
 ghost use Rattle.sf_actor.specs.Desks.{has_queue};
@@ -7,13 +9,10 @@ ghost use Rattle.sf_actor_steps.specs.Editing.{IsThere, Releases, ReleasesAll, b
 use crate::bindings::Bindings;
 use crate::calling::leave;
 use crate::tried::Tried;
-use sf_actor::sf_calls::CallFault;
-use sf_actor::sf_layer::{Kind, Op, Parent, Shown};
-use sf_actor::sf_script_scene::Change;
-use sf_actor::sf_surface::{QCall, QReply, ReadLease};
-use sf_actor::sf_turns::TableName;
-use sf_actor::sf_txn::{BufferOp, Transaction};
-use sf_actor::{Desk, TokensOf};
+use sf_actor::{
+    BufferOp, CallFault, Change, Desk, Kind, Op, Parent, QCall, QReply, ReadLease, Shown,
+    TableName, TokensOf, Transaction,
+};
 use sf_base::{ActorId, Fence, LayerId, NoMemory, Rect, TokenId};
 use std::alloc::Global;
 
@@ -85,18 +84,18 @@ fn release_overtaken<B: TableName, D: Desk<TokensOf<B>>>(
     alloc: Global,
     desk: &mut D,
     by: ActorId,
-    place: u32,
+    step_number: u32,
     lease: ReadLease<B>,
 ) -> Result<(), NoMemory>
     requires served { (D.home desk.old).serves by.0 ≡ true }
     requires there { has_queue (D.home desk.old) lease.queue.0 ≡ true }
-    ensures releases { OnOk result (Releases (D.home desk.old) by.0 place lease (D.view desk.old) (D.view desk.new)) }
+    ensures releases { OnOk result (Releases (D.home desk.old) by.0 step_number lease (D.view desk.old) (D.view desk.new)) }
     ensures home { D.home desk.new ≡ D.home desk.old }
 {
     let queue = lease.queue;
     let mut fence = Fence::none();
     fence.merge(alloc, &lease.fence)?;
-    match desk.call(by, queue, place, QCall::Release(lease, fence)) {
+    match desk.call(by, queue, step_number, QCall::Release(lease, fence)) {
         Ok(reply) => {
             let QReply {
                 status: _status,
@@ -122,16 +121,16 @@ fn release_all<B: TableName, D: Desk<TokensOf<B>>>(
     alloc: Global,
     desk: &mut D,
     by: ActorId,
-    place: u32,
+    step_number: u32,
     replaced: Vec<BufferOp<ReadLease<B>>>,
 ) -> Result<(), NoMemory>
     requires served { (D.home desk.old).serves by.0 ≡ true }
     requires there { All (IsThere (D.home desk.old)) replaced.items }
-    ensures releases { OnOk result (ReleasesAll (D.home desk.old) by.0 place replaced.items (D.view desk.old) (D.view desk.new)) }
+    ensures releases { OnOk result (ReleasesAll (D.home desk.old) by.0 step_number replaced.items (D.view desk.old) (D.view desk.new)) }
     ensures home { D.home desk.new ≡ D.home desk.old }
 {
     for buffer in replaced {
-        release_overtaken(alloc, desk, by, place, buffer.lease)?;
+        release_overtaken(alloc, desk, by, step_number, buffer.lease)?;
     }
     Ok(())
 }
@@ -208,7 +207,7 @@ impl<B: TableName> Bindings<B> {
     pub fn show<D: Desk<TokensOf<B>>>(
         &mut self,
         desk: &mut D,
-        place: u32,
+        step_number: u32,
         number: u32,
         layer: u32,
         name: u32,
@@ -218,7 +217,7 @@ impl<B: TableName> Bindings<B> {
         requires shown { HoldsShown (get_or self.old.names name None) }
         requires layer { 1 ≤ layer }
         requires queues { AreThere (D.home desk.old) (get_or self.old.transactions number None) }
-        ensures shows { IfOk result (λ came_to. (came_to ≡ tried.Own 0) × Shows (D.home desk.old) self.old.by.0 place number layer name
+        ensures shows { IfOk result (λ came_to. (came_to ≡ tried.Own 0) × Shows (D.home desk.old) self.old.by.0 step_number number layer name
             self.old self.new (D.view desk.old) (D.view desk.new)) }
         ensures home { D.home desk.new ≡ D.home desk.old }
     {
@@ -230,7 +229,7 @@ impl<B: TableName> Bindings<B> {
         };
         self.transactions.put(number, transaction);
         if let Some(buffer) = replaced {
-            release_overtaken(self.alloc, desk, self.by, place, buffer.lease)?;
+            release_overtaken(self.alloc, desk, self.by, step_number, buffer.lease)?;
         }
         Ok(Tried::Own(0))
     }
@@ -240,7 +239,7 @@ impl<B: TableName> Bindings<B> {
     pub fn merge<D: Desk<TokensOf<B>>>(
         &mut self,
         desk: &mut D,
-        place: u32,
+        step_number: u32,
         number: u32,
         other: u32,
     ) -> Result<Tried, NoMemory>
@@ -250,7 +249,7 @@ impl<B: TableName> Bindings<B> {
         requires apart { other ≢ number }
         requires queues { AreThere (D.home desk.old) (get_or self.old.transactions number None) }
         requires other_queues { AreThere (D.home desk.old) (get_or self.old.transactions other None) }
-        ensures merges { IfOk result (λ came_to. (came_to ≡ tried.Own 0) × Merges (D.home desk.old) self.old.by.0 place number other
+        ensures merges { IfOk result (λ came_to. (came_to ≡ tried.Own 0) × Merges (D.home desk.old) self.old.by.0 step_number number other
             self.old self.new (D.view desk.old) (D.view desk.new)) }
         ensures home { D.home desk.new ≡ D.home desk.old }
     {
@@ -261,7 +260,7 @@ impl<B: TableName> Bindings<B> {
         };
         self.transactions.put(number, transaction);
         self.transactions.put(other, Transaction::new(self.alloc));
-        release_all(self.alloc, desk, self.by, place, replaced)?;
+        release_all(self.alloc, desk, self.by, step_number, replaced)?;
         Ok(Tried::Own(0))
     }
 
@@ -269,18 +268,18 @@ impl<B: TableName> Bindings<B> {
     pub fn send<D: Desk<TokensOf<B>>>(
         &mut self,
         desk: &mut D,
-        place: u32,
+        step_number: u32,
         number: u32,
         token: u32,
     ) -> Result<Tried, NoMemory>
         requires served { (D.home desk.old).serves self.old.by.0 ≡ true }
         requires there { is_some (get_or self.old.transactions number None) ≡ true }
-        ensures tries { IfOk result (TriesSend (D.home desk.old) self.old.by.0 place number token self.old self.new (D.view desk.old) (D.view desk.new)) }
+        ensures tries { IfOk result (TriesSend (D.home desk.old) self.old.by.0 step_number number token self.old self.new (D.view desk.old) (D.view desk.new)) }
         ensures home { D.home desk.new ≡ D.home desk.old }
     {
         let mut transaction = self.take_transaction(number);
         transaction.address(TokenId(token));
-        match desk.send(self.by, place, transaction) {
+        match desk.send(self.by, step_number, transaction) {
             Ok(arrival) => Ok(Tried::Sent(arrival)),
             Err(_) => Err(NoMemory),
         }

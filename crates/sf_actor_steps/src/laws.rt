@@ -1,3 +1,4 @@
+//! A law about an actor that has done nothing, called for its clauses alone.
 ghost use Rattle.std.specs.Prelude.{ℕ, List};
 ghost use Rattle.sf_actor.specs.sf_picture.declared.picture.Picture.{Picture};
 ghost use Rattle.sf_actor.specs.sf_script_scene.declared.step.ActorScript.{ActorScript};
@@ -5,7 +6,7 @@ ghost use Rattle.sf_actor.specs.Desks.{DeskHome, DeskView};
 ghost use Rattle.sf_actor.specs.Tries.{Keeps};
 ghost use Rattle.sf_actor_steps.specs.Actors.{IsNew, new_actor};
 
-use sf_actor::sf_turns::TableName;
+use sf_actor::TableName;
 
 /// An actor that has done nothing keeps what it keeps, over a desk that knows no call and no arrival
 /// of it, where it has enough permits for the dequeues of its script, each once.

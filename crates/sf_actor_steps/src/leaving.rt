@@ -1,3 +1,5 @@
+//! The steps that disconnect a producer or take a buffer out of its queue, once its fence is
+//! signalled.
 ghost use Rattle.std.specs.Prelude.{◌≡◌};
 ghost use Rattle.std.specs.Option.{option_copied};
 ghost use Rattle.sf_actor_steps.specs.Leaving.{Looks, was_ok};
@@ -7,9 +9,7 @@ use crate::bindings::Bindings;
 use crate::drawing::look;
 use crate::refusal::BAD_VALUE;
 use crate::tried::Tried;
-use sf_actor::sf_surface::QCall;
-use sf_actor::sf_turns::TableName;
-use sf_actor::{Desk, Holding, TokensOf};
+use sf_actor::{Desk, Holding, QCall, TableName, TokensOf};
 use sf_base::{Fence, NoMemory, QueueId};
 
 /// Whether a point of a fence is not signalled, as a look shows, if there is a fence.
@@ -79,17 +79,21 @@ impl<B: TableName> Bindings<B> {
     pub fn disconnect<D: Desk<TokensOf<B>>>(
         &mut self,
         desk: &mut D,
-        place: u32,
+        step_number: u32,
         queue: u32,
     ) -> Result<Tried, NoMemory>
         requires served { (D.home desk.old).serves self.old.by.0 ≡ true }
         requires there { has_queue (D.home desk.old) queue ≡ true }
         requires names { length self.old.names ≡ 32 }
         ensures makes { IfOk result (λ tried. (pictures : ℕ → Picture) → Disconnects pictures
-            (D.home desk.old) self.old.by.0 place (step.Disconnect queue) queue self.old self.new (D.view desk.old) (D.view desk.new) tried) }
+            (D.home desk.old) self.old.by.0 step_number (step.Disconnect queue) queue self.old self.new (D.view desk.old) (D.view desk.new) tried) }
         ensures home { D.home desk.new ≡ D.home desk.old }
     {
-        let tried = self.ask(desk, place, named(QueueId(queue), 0, QCall::Disconnect))?;
+        let tried = self.ask(
+            desk,
+            step_number,
+            named(QueueId(queue), 0, QCall::Disconnect),
+        )?;
         if was_ok(&tried) {
             self.drop_lent(queue);
         }
@@ -123,7 +127,7 @@ impl<B: TableName> Bindings<B> {
     pub fn detach<D: Desk<TokensOf<B>>>(
         &mut self,
         desk: &mut D,
-        place: u32,
+        step_number: u32,
         from: u32,
         to: u32,
     ) -> Result<Tried, NoMemory>
@@ -131,21 +135,21 @@ impl<B: TableName> Bindings<B> {
         requires lent { is_lent (name_in (holdings_of self.old) from) ≡ true }
         requires there { HasQueueOf (D.home desk.old) (name_in (holdings_of self.old) from) }
         ensures tries { IfOk result (λ tried. (pictures : ℕ → Picture) → TriesToLeave pictures
-            (D.home desk.old) self.old.by.0 place (step.PDetach from to) (requested_fence (name_in (holdings_of self.old) from)) self.old self.new
+            (D.home desk.old) self.old.by.0 step_number (step.PDetach from to) (requested_fence (name_in (holdings_of self.old) from)) self.old self.new
             (D.view desk.old) (D.view desk.new) tried) }
         ensures home { D.home desk.new ≡ D.home desk.old }
     {
         if is_open(desk, self.requested_fence(from)) {
             return Ok(Tried::Own(BAD_VALUE));
         }
-        self.detach_now(desk, place, from, to)
+        self.detach_now(desk, step_number, from, to)
     }
 
     /// Takes a lent buffer out of its queue.
     fn detach_now<D: Desk<TokensOf<B>>>(
         &mut self,
         desk: &mut D,
-        place: u32,
+        step_number: u32,
         from: u32,
         to: u32,
     ) -> Result<Tried, NoMemory>
@@ -153,14 +157,14 @@ impl<B: TableName> Bindings<B> {
         requires lent { is_lent (name_in (holdings_of self.old) from) ≡ true }
         requires there { HasQueueOf (D.home desk.old) (name_in (holdings_of self.old) from) }
         ensures makes { IfOk result (λ tried. (pictures : ℕ → Picture) → MakesCall pictures
-            (D.home desk.old) self.old.by.0 place (step.PDetach from to) self.old self.new (D.view desk.old) (D.view desk.new) tried) }
+            (D.home desk.old) self.old.by.0 step_number (step.PDetach from to) self.old self.new (D.view desk.old) (D.view desk.new) tried) }
         ensures home { D.home desk.new ≡ D.home desk.old }
     {
         let lease = self.take_lent(from);
         let (queue, held) = (lease.queue, lease.held);
         self.ask(
             desk,
-            place,
+            step_number,
             moving(queue, from, to, held, QCall::Detach(lease)),
         )
     }
@@ -169,7 +173,7 @@ impl<B: TableName> Bindings<B> {
     pub fn detach_read<D: Desk<TokensOf<B>>>(
         &mut self,
         desk: &mut D,
-        place: u32,
+        step_number: u32,
         from: u32,
         to: u32,
     ) -> Result<Tried, NoMemory>
@@ -177,21 +181,21 @@ impl<B: TableName> Bindings<B> {
         requires frame { is_frame (name_in (holdings_of self.old) from) ≡ true }
         requires there { HasQueueOf (D.home desk.old) (name_in (holdings_of self.old) from) }
         ensures tries { IfOk result (λ tried. (pictures : ℕ → Picture) → TriesToLeave pictures
-            (D.home desk.old) self.old.by.0 place (step.CDetach from to) (frame_fence (name_in (holdings_of self.old) from)) self.old self.new
+            (D.home desk.old) self.old.by.0 step_number (step.CDetach from to) (frame_fence (name_in (holdings_of self.old) from)) self.old self.new
             (D.view desk.old) (D.view desk.new) tried) }
         ensures home { D.home desk.new ≡ D.home desk.old }
     {
         if is_open(desk, self.frame_fence(from)) {
             return Ok(Tried::Own(BAD_VALUE));
         }
-        self.detach_read_now(desk, place, from, to)
+        self.detach_read_now(desk, step_number, from, to)
     }
 
     /// Takes a frame's buffer out of its queue.
     fn detach_read_now<D: Desk<TokensOf<B>>>(
         &mut self,
         desk: &mut D,
-        place: u32,
+        step_number: u32,
         from: u32,
         to: u32,
     ) -> Result<Tried, NoMemory>
@@ -199,14 +203,14 @@ impl<B: TableName> Bindings<B> {
         requires frame { is_frame (name_in (holdings_of self.old) from) ≡ true }
         requires there { HasQueueOf (D.home desk.old) (name_in (holdings_of self.old) from) }
         ensures makes { IfOk result (λ tried. (pictures : ℕ → Picture) → MakesCall pictures
-            (D.home desk.old) self.old.by.0 place (step.CDetach from to) self.old self.new (D.view desk.old) (D.view desk.new) tried) }
+            (D.home desk.old) self.old.by.0 step_number (step.CDetach from to) self.old self.new (D.view desk.old) (D.view desk.new) tried) }
         ensures home { D.home desk.new ≡ D.home desk.old }
     {
         let lease = self.take_frame(from);
         let (queue, held) = (lease.queue, lease.held);
         self.ask(
             desk,
-            place,
+            step_number,
             moving(queue, from, to, held, QCall::DetachRead(lease)),
         )
     }

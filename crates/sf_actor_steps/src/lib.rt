@@ -21,5 +21,8 @@ mod tried;
 
 pub use actor::Actor;
 pub use laws::a_new_actor_keeps_what_it_keeps;
-pub use sf_actor;
-pub use sf_actor::{sf_calls, sf_script_scene, sf_surface, sf_times, sf_turns, sf_txn};
+pub use sf_actor::{
+    ActorScript, CallFault, Desk, DrawFault, Lease, PlainDesk, QCall, QReply, QueueDecl,
+    QueueObject, ReadLease, Reply, Step, Stepped, Stock, TableName, Timelines, Tokens, TurnSeat,
+    settle,
+};

@@ -1,11 +1,8 @@
+//! The steps of a producer: they connect, dequeue, request, queue, cancel and attach buffers.
 use crate::asking::{cancel, fence_of, joining, moving, named, queueing};
 use crate::bindings::Bindings;
 use crate::tried::Tried;
-use sf_actor::sf_picture::Picture;
-use sf_actor::sf_script_scene::Points;
-use sf_actor::sf_surface::QCall;
-use sf_actor::sf_turns::TableName;
-use sf_actor::{Desk, TokensOf};
+use sf_actor::{Desk, Picture, Points, QCall, TableName, TokensOf};
 use sf_base::{NoMemory, QueueId};
 
 impl<B: TableName> Bindings<B> {
@@ -22,57 +19,65 @@ impl<B: TableName> Bindings<B> {
     pub fn connect<D: Desk<TokensOf<B>>>(
         &mut self,
         desk: &mut D,
-        place: u32,
+        step_number: u32,
         queue: u32,
     ) -> Result<Tried, NoMemory>
         requires served { (D.home desk.old).serves self.old.by.0 ≡ true }
         requires there { has_queue (D.home desk.old) queue ≡ true }
         ensures makes { IfOk result (λ tried. (pictures : ℕ → Picture) → MakesCall pictures
-            (D.home desk.old) self.old.by.0 place (step.Connect queue) self.old self.new (D.view desk.old) (D.view desk.new) tried) }
+            (D.home desk.old) self.old.by.0 step_number (step.Connect queue) self.old self.new (D.view desk.old) (D.view desk.new) tried) }
         ensures home { D.home desk.new ≡ D.home desk.old }
     {
-        self.ask(desk, place, named(QueueId(queue), 0, QCall::Connect))
+        self.ask(desk, step_number, named(QueueId(queue), 0, QCall::Connect))
     }
 
     /// Limits how many buffers a producer may hold.
     pub fn limit_dequeued<D: Desk<TokensOf<B>>>(
         &mut self,
         desk: &mut D,
-        place: u32,
+        step_number: u32,
         queue: u32,
         n: u32,
     ) -> Result<Tried, NoMemory>
         requires served { (D.home desk.old).serves self.old.by.0 ≡ true }
         requires there { has_queue (D.home desk.old) queue ≡ true }
         ensures makes { IfOk result (λ tried. (pictures : ℕ → Picture) → MakesCall pictures
-            (D.home desk.old) self.old.by.0 place (step.MaxDequeued queue n) self.old self.new (D.view desk.old) (D.view desk.new) tried) }
+            (D.home desk.old) self.old.by.0 step_number (step.MaxDequeued queue n) self.old self.new (D.view desk.old) (D.view desk.new) tried) }
         ensures home { D.home desk.new ≡ D.home desk.old }
     {
-        self.ask(desk, place, named(QueueId(queue), 0, QCall::MaxDequeued(n)))
+        self.ask(
+            desk,
+            step_number,
+            named(QueueId(queue), 0, QCall::MaxDequeued(n)),
+        )
     }
 
     /// Makes a queue asynchronous, or not.
     pub fn set_async<D: Desk<TokensOf<B>>>(
         &mut self,
         desk: &mut D,
-        place: u32,
+        step_number: u32,
         queue: u32,
         on: bool,
     ) -> Result<Tried, NoMemory>
         requires served { (D.home desk.old).serves self.old.by.0 ≡ true }
         requires there { has_queue (D.home desk.old) queue ≡ true }
         ensures makes { IfOk result (λ tried. (pictures : ℕ → Picture) → MakesCall pictures
-            (D.home desk.old) self.old.by.0 place (step.Async queue on) self.old self.new (D.view desk.old) (D.view desk.new) tried) }
+            (D.home desk.old) self.old.by.0 step_number (step.Async queue on) self.old self.new (D.view desk.old) (D.view desk.new) tried) }
         ensures home { D.home desk.new ≡ D.home desk.old }
     {
-        self.ask(desk, place, named(QueueId(queue), 0, QCall::Async(on)))
+        self.ask(
+            desk,
+            step_number,
+            named(QueueId(queue), 0, QCall::Async(on)),
+        )
     }
 
     /// Lets a name hold a buffer of a queue, of this size where one is asked.
     pub fn dequeue<D: Desk<TokensOf<B>>>(
         &mut self,
         desk: &mut D,
-        place: u32,
+        step_number: u32,
         queue: u32,
         name: u32,
         size: Option<(u32, u32)>,
@@ -82,7 +87,7 @@ impl<B: TableName> Bindings<B> {
         requires left { 0 < length (permits_of self.old) }
         requires table { AreOfTable B.table self.old }
         ensures makes { IfOk result (λ tried. (pictures : ℕ → Picture) → MakesCall pictures
-            (D.home desk.old) self.old.by.0 place (step.Dequeue queue name size) self.old self.new (D.view desk.old) (D.view desk.new) tried) }
+            (D.home desk.old) self.old.by.0 step_number (step.Dequeue queue name size) self.old self.new (D.view desk.old) (D.view desk.new) tried) }
         ensures home { D.home desk.new ≡ D.home desk.old }
     {
         let (width, height) = size.unwrap_or((0, 0));
@@ -93,14 +98,14 @@ impl<B: TableName> Bindings<B> {
             wait: false,
             permit,
         };
-        self.ask(desk, place, named(QueueId(queue), name, call))
+        self.ask(desk, step_number, named(QueueId(queue), name, call))
     }
 
     /// Lets a name hold a buffer of a queue as soon as there is one.
     pub fn dequeue_wait<D: Desk<TokensOf<B>>>(
         &mut self,
         desk: &mut D,
-        place: u32,
+        step_number: u32,
         queue: u32,
         name: u32,
         size: Option<(u32, u32)>,
@@ -110,7 +115,7 @@ impl<B: TableName> Bindings<B> {
         requires left { 0 < length (permits_of self.old) }
         requires table { AreOfTable B.table self.old }
         ensures makes { IfOk result (λ tried. (pictures : ℕ → Picture) → MakesCall pictures
-            (D.home desk.old) self.old.by.0 place (step.DequeueWait queue name size) self.old self.new (D.view desk.old) (D.view desk.new) tried) }
+            (D.home desk.old) self.old.by.0 step_number (step.DequeueWait queue name size) self.old self.new (D.view desk.old) (D.view desk.new) tried) }
         ensures home { D.home desk.new ≡ D.home desk.old }
     {
         let (width, height) = size.unwrap_or((0, 0));
@@ -121,28 +126,28 @@ impl<B: TableName> Bindings<B> {
             wait: true,
             permit,
         };
-        self.ask(desk, place, named(QueueId(queue), name, call))
+        self.ask(desk, step_number, named(QueueId(queue), name, call))
     }
 
     /// Makes the buffer that a name holds known.
     pub fn request<D: Desk<TokensOf<B>>>(
         &mut self,
         desk: &mut D,
-        place: u32,
+        step_number: u32,
         name: u32,
     ) -> Result<Tried, NoMemory>
         requires served { (D.home desk.old).serves self.old.by.0 ≡ true }
         requires lent { is_lent (name_in (holdings_of self.old) name) ≡ true }
         requires there { HasQueueOf (D.home desk.old) (name_in (holdings_of self.old) name) }
         ensures makes { IfOk result (λ tried. (pictures : ℕ → Picture) → MakesCall pictures
-            (D.home desk.old) self.old.by.0 place (step.Request name) self.old self.new (D.view desk.old) (D.view desk.new) tried) }
+            (D.home desk.old) self.old.by.0 step_number (step.Request name) self.old self.new (D.view desk.old) (D.view desk.new) tried) }
         ensures home { D.home desk.new ≡ D.home desk.old }
     {
         let lease = self.take_lent(name);
         let (queue, held) = (lease.queue, lease.held);
         self.ask(
             desk,
-            place,
+            step_number,
             moving(queue, name, name, held, QCall::Request(lease)),
         )
     }
@@ -151,7 +156,7 @@ impl<B: TableName> Bindings<B> {
     pub fn cancel<D: Desk<TokensOf<B>>>(
         &mut self,
         desk: &mut D,
-        place: u32,
+        step_number: u32,
         name: u32,
         points: &Points,
     ) -> Result<Tried, NoMemory>
@@ -160,20 +165,20 @@ impl<B: TableName> Bindings<B> {
         requires there { HasQueueOf (D.home desk.old) (name_in (holdings_of self.old) name) }
         requires points { ArePoints points.now }
         ensures makes { IfOk result (λ tried. (pictures : ℕ → Picture) → MakesCall pictures
-            (D.home desk.old) self.old.by.0 place (step.Cancel name points.now) self.old self.new (D.view desk.old) (D.view desk.new) tried) }
+            (D.home desk.old) self.old.by.0 step_number (step.Cancel name points.now) self.old self.new (D.view desk.old) (D.view desk.new) tried) }
         ensures home { D.home desk.new ≡ D.home desk.old }
     {
         let lease = self.take_lent(name);
         let fence = fence_of(self.alloc, points)?;
         let asking = cancel(self.alloc, name, lease, fence)?;
-        self.ask(desk, place, asking)
+        self.ask(desk, step_number, asking)
     }
 
     /// Puts a loose buffer into a queue, lent to its producer.
     pub fn attach<D: Desk<TokensOf<B>>>(
         &mut self,
         desk: &mut D,
-        place: u32,
+        step_number: u32,
         queue: u32,
         from: u32,
         to: u32,
@@ -182,13 +187,13 @@ impl<B: TableName> Bindings<B> {
         requires there { has_queue (D.home desk.old) queue ≡ true }
         requires apart { is_apart (name_in (holdings_of self.old) from) ≡ true }
         ensures makes { IfOk result (λ tried. (pictures : ℕ → Picture) → MakesCall pictures
-            (D.home desk.old) self.old.by.0 place (step.PAttach queue from to) self.old self.new (D.view desk.old) (D.view desk.new) tried) }
+            (D.home desk.old) self.old.by.0 step_number (step.PAttach queue from to) self.old self.new (D.view desk.old) (D.view desk.new) tried) }
         ensures home { D.home desk.new ≡ D.home desk.old }
     {
         let (last, loose) = self.take_free(from);
         self.ask(
             desk,
-            place,
+            step_number,
             joining(QueueId(queue), from, to, last, QCall::Attach(loose)),
         )
     }
@@ -197,7 +202,7 @@ impl<B: TableName> Bindings<B> {
     pub fn queue<D: Desk<TokensOf<B>>>(
         &mut self,
         desk: &mut D,
-        place: u32,
+        step_number: u32,
         name: u32,
         picture: &Picture,
         time: Option<u64>,
@@ -210,7 +215,7 @@ impl<B: TableName> Bindings<B> {
         requires points { ArePoints points.now }
         requires crop { IsCrop crop }
         ensures makes { IfOk result (λ tried. (pictures : ℕ → Picture) (number : ℕ) → pictures number ≡ picture.now → MakesCall pictures
-            (D.home desk.old) self.old.by.0 place (step.Queue name number time crop points.now) self.old self.new (D.view desk.old) (D.view desk.new) tried) }
+            (D.home desk.old) self.old.by.0 step_number (step.Queue name number time crop points.now) self.old self.new (D.view desk.old) (D.view desk.new) tried) }
         ensures home { D.home desk.new ≡ D.home desk.old }
     {
         let picture = picture.copy(self.alloc)?;
@@ -218,7 +223,7 @@ impl<B: TableName> Bindings<B> {
         let lease = self.take_lent(name);
         self.ask(
             desk,
-            place,
+            step_number,
             queueing(name, lease, picture, time, crop, fence),
         )
     }

@@ -1,3 +1,4 @@
+//! The tests that a step makes itself, before any call: of its names, its numbers and its picture.
 ghost use Rattle.std.specs.Prelude.{◌≡◌, ◌==◌, not, None, Some, if◌then◌else◌, true};
 ghost use Rattle.std.specs.List.{find};
 ghost use Rattle.std.specs.Option.{option_copied};
@@ -8,11 +9,7 @@ ghost use Rattle.sf_actor.specs.sf_script_scene.Scene.{has_picture};
 ghost use Rattle.sf_actor_steps.specs.Bindings.{is_numbered, lent_of};
 
 use crate::bindings::Bindings;
-use sf_actor::Holding;
-use sf_actor::sf_picture::Picture;
-use sf_actor::sf_script_scene::Step;
-use sf_actor::sf_surface::{Owing, ReadLease, Work, WriteLease};
-use sf_actor::sf_turns::TableName;
+use sf_actor::{Holding, Owing, Picture, ReadLease, Step, TableName, Work, WriteLease};
 
 /// The picture can't be drawn there, another one was drawn, or the frame has no number.
 pub const BAD_VALUE: u32 = 11;

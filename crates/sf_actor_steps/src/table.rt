@@ -1,3 +1,4 @@
+//! A table of what numbers hold, for names and for transactions.
 ghost use Rattle.std.specs.Prelude.{◌≡◌, IfOk, None, Some, get_or, replicate, slice_set};
 ghost use Rattle.std.specs.Option.{option_copied};
 

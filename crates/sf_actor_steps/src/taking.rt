@@ -1,8 +1,6 @@
+//! Takes what a step needs out of the names that hold it.
 use crate::bindings::Bindings;
-use sf_actor::Holding;
-use sf_actor::sf_picture::Painted;
-use sf_actor::sf_surface::{Loose, ReadLease, WriteLease};
-use sf_actor::sf_turns::{Permit, TableName};
+use sf_actor::{Holding, Loose, Painted, Permit, ReadLease, TableName, WriteLease};
 use sf_base::{NoMemory, QueueId};
 
 impl<B: TableName> Bindings<B> {

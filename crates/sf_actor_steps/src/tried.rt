@@ -1,5 +1,6 @@
+//! What a try of a step came to inside an actor, and the reply that it makes of it.
 ghost use Rattle.std.specs.Prelude.{◌≡◌, ◌<◌, [], vec_capacity, vec_len};
-ghost use Rattle.sf_actor_steps.specs.Coming.{is_done, reply_told};
+ghost use Rattle.sf_actor_steps.specs.inner.Coming.{is_done, reply_told};
 
 use sf_actor::Reply;
 use sf_base::{Items, QStatus};

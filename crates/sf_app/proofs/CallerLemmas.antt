@@ -14,7 +14,7 @@ use Rattle.sf_record_sums.specs.sf_output.declared.output.Output.{Output}
 use Rattle.sf_record_sums.specs.sf_output.declared.output.Output.TheVariants as out
 use Rattle.sf_record_sums.specs.sf_record.declared.event.Event.{Event}
 use Rattle.sf_record_sums.specs.sf_record.declared.event.Event.TheVariants as event
-use Rattle.sf_record_sums.specs.sf_record.declared.record.Commit.{Commit}
+use Rattle.sf_record_sums.specs.sf_record.declared.record.CommitRecord.{CommitRecord}
 use Rattle.sf_record_sums.specs.sf_record.declared.record.HeldEntry.{HeldEntry}
 use Rattle.sf_record_sums.specs.sf_record.declared.record.HistoryEntry.{HistoryEntry}
 use Rattle.sf_record_sums.specs.sf_record.declared.record.QueueHistory.{QueueHistory}
@@ -30,7 +30,7 @@ histories_in-append : (rs ss : List Record) → histories_in (rs ++ ss) ≡ hist
 unfolding histories_in
 histories_in-append rs ss = flat_map-append history_in rs ss
 
-no_histories : (commits : List Commit) → histories_in (map rec.Comm commits) ≡ []
+no_histories : (commits : List CommitRecord) → histories_in (map rec.Comm commits) ≡ []
 unfolding histories_in
 no_histories [] = refl
 no_histories (c ∷ commits) = no_histories commits

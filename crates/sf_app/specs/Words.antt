@@ -22,6 +22,7 @@ tells_place options = not (is_queue options.intake)
 abbrev pub generated : ℕ → Text
 generated number = concat (lines_of number)
 
+-- which script was played, by whether it is generated
 abbrev pub IsScriptBy : Bool → ℕ → Option (List ℕ) → Option (List ℕ) → List ℕ → Type 0
 IsScriptBy true number left rest bytes = (rest ≡ left) × (bytes ≡ generated number)
 IsScriptBy false number left rest bytes = Consumes left rest bytes × IsAtEnd rest
@@ -30,6 +31,7 @@ IsScriptBy false number left rest bytes = Consumes left rest bytes × IsAtEnd re
 abbrev pub IsScript : Options → Option (List ℕ) → Option (List ℕ) → List ℕ → Type 0
 IsScript options left rest bytes = IsScriptBy (is_gen options.run) options.number left rest bytes
 
+-- which script is to be played, where that is known, by whether it is generated
 abbrev pub IsToldBy : Bool → ℕ → Option (List ℕ) → List ℕ → Type 0
 IsToldBy true number left bytes = bytes ≡ generated number
 IsToldBy false number left bytes = left ≡ Some bytes

@@ -1,3 +1,5 @@
+//! Laws about whole runs, called for their clauses alone: a scene has one play, and histories show
+//! calls of known callers alone.
 ghost use Rattle.std.specs.Prelude.{◌≡◌, List};
 ghost use Rattle.sf_script_scene.specs.Scene.{SceneValue};
 ghost use Rattle.sf_record_sums.specs.sf_record.declared.record.Record.{Record};

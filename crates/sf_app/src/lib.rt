@@ -16,9 +16,8 @@ mod words;
 
 pub use laws::{callers_are_known, one_play};
 pub use session::run;
-pub use sf_live;
-pub use sf_live::{Stock, TableName, TurnSeat};
-pub use sf_record_sums::sf_record::{
-    HistoryEntry, QueueHistory, Record, RunFault, StuckEntry, write_record,
+pub use sf_live::{
+    Engine, Stock, TableName, TurnSeat, live as live_by_lock, live_queue as live_by_queue,
 };
+pub use sf_record_sums::{HistoryEntry, QueueHistory, Record, RunFault, StuckEntry, write_record};
 pub use sf_script_scene::Scene;

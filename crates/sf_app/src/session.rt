@@ -1,3 +1,5 @@
+//! The public call `run`, which the headline is about, and what leads from the words of a command
+//! to its status: words, script, scene, then a play or a live run.
 ghost use Rattle.std.specs.Prelude.{◌≡◌, ◌≤◌, ◌⊎◌, ℕ, List, Some, Ok, Err, OnErr, OnOk, IsErrOf, map};
 ghost use Rattle.std.specs.String.{string_bytes};
 ghost use Rattle.sf_io.specs.Causes.{Rose};
@@ -14,10 +16,11 @@ ghost use Rattle.sf_app.specs.Words.{IsTold, tells_place};
 use crate::live::live;
 use crate::summary::show;
 use crate::words::script_asked;
-use law_generated::sf_script::{ParseFault, ScriptFault, parse};
+use law_generated::{ParseFault, ScriptFault, parse};
 use sf_app_options::{Options, OptionsFault, Run};
 use sf_io::{Gate, ReadFault, Sink, Source};
-use sf_record_sums::sf_record::{Record, RunFault, write_record};
+use sf_live::{Engine, Workers};
+use sf_record_sums::{Record, RunFault, write_record};
 use sf_script_scene::Scene;
 use std::alloc::Global;
 use std::sync::Wait;
@@ -41,7 +44,7 @@ const WRITE_FAILED: u8 = 4;
 /// The status of a run that found no memory.
 const NO_MEMORY: u8 = 5;
 
-// The fault of this cause, which has no place.
+/// The fault of this cause, which has no place.
 fn at_no_place(cause: u32) -> ScriptFault
     ensures { result ≡ at_no_place cause }
 {
@@ -52,7 +55,7 @@ fn at_no_place(cause: u32) -> ScriptFault
     }
 }
 
-// Writes the place of a script's fault.
+/// Writes the place of a script's fault.
 fn refuse<K: Sink>(alloc: Global, sink: &mut K, fault: ScriptFault) -> u8
     ensures { (options : OptionsValue)
         → ScriptEnded options (Err fault) result (K.taken sink.old) (K.taken sink.new) (K.faults sink.old) (K.faults sink.new) }
@@ -65,7 +68,7 @@ fn refuse<K: Sink>(alloc: Global, sink: &mut K, fault: ScriptFault) -> u8
     }
 }
 
-// Plays a scene, live if the options ask for it, and writes what shows its run.
+/// Plays a scene, live if the options ask for it, and writes what shows its run.
 fn show_run<R: Threads + Wait + Sync, K: Sink, G: Gate + Sync>(
     rt: &R,
     alloc: Global,
@@ -81,21 +84,18 @@ fn show_run<R: Threads + Wait + Sync, K: Sink, G: Gate + Sync>(
     ensures later { K.faults sink.old ≤ K.faults sink.new }
     ensures failed { IsErrOf result WriteFault → Rose (K.faults sink.old) (K.faults sink.new) }
 {
+    let engine = Engine {
+        rt,
+        alloc,
+        workers: Workers::new(options.workers),
+    };
     match options.run {
-        Run::Live => live(
-            rt,
-            alloc,
-            options.workers,
-            sink,
-            gate,
-            scene,
-            options.intake,
-        ),
-        Run::Play | Run::Gen => { show(rt, alloc, options.workers, options.summary, sink, scene) }
+        Run::Live => live(&engine, sink, gate, scene, options.intake),
+        Run::Play | Run::Gen => { show(&engine, options.summary, sink, scene) }
     }
 }
 
-// Plays a scene, and answers the status of its run.
+/// Plays a scene, and answers the status of its run.
 fn play_scene<R: Threads + Wait + Sync, K: Sink, G: Gate + Sync>(
     rt: &R,
     alloc: Global,
@@ -115,7 +115,7 @@ fn play_scene<R: Threads + Wait + Sync, K: Sink, G: Gate + Sync>(
     }
 }
 
-// Plays a script, and writes what shows its run, or the place of its fault.
+/// Plays a script, and writes what shows its run, or the place of its fault.
 fn play_script<R: Threads + Wait + Sync, K: Sink, G: Gate + Sync>(
     rt: &R,
     alloc: Global,
@@ -135,7 +135,7 @@ fn play_script<R: Threads + Wait + Sync, K: Sink, G: Gate + Sync>(
     }
 }
 
-// Plays the script that the options ask for.
+/// Plays the script that the options ask for.
 fn play_asked<R: Threads + Wait + Sync, S: Source, K: Sink, G: Gate + Sync>(
     rt: &R,
     alloc: Global,
@@ -156,7 +156,7 @@ fn play_asked<R: Threads + Wait + Sync, S: Source, K: Sink, G: Gate + Sync>(
     }
 }
 
-// Does what the words ask.
+/// Does what the words ask.
 fn follow<R: Threads + Wait + Sync, S: Source, K: Sink, G: Gate + Sync>(
     rt: &R,
     alloc: Global,

@@ -1,10 +1,11 @@
+//! Where the script of a run comes from: it is read from the source to its end, or generated from
+//! the number that the words have.
 ghost use Rattle.std.specs.Prelude.{◌≡◌, false, true, IfOk, IsErrOf};
 ghost use Rattle.sf_io.specs.Causes.{Rose};
 ghost use Rattle.sf_io.specs.Streams.{Took};
 ghost use Rattle.sf_app.specs.Words.{IsScript, generated, is_gen};
 
-use law_generated::sf_script::LONGEST_SCRIPT;
-use law_generated::sf_script_generate::generate;
+use law_generated::{LONGEST_SCRIPT, generate};
 use sf_app_options::{Options, Run};
 use sf_io::{ReadFault, Source, read_all};
 use std::alloc::Global;

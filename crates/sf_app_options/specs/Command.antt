@@ -16,6 +16,7 @@ flag name = record (new_rule name) { long = Some name; action = Some SetTrue }
 abbrev pub bare : App
 bare = let named = new_app (codes "sf_main") in record named { top = record named.top { no_binary_name = true } }
 
+-- the options of the program as clap takes them: run, workers, number and intake with values, and summary
 abbrev pub sf_command : App
 sf_command =
     let counted = with_rule (with_rule (with_rule bare (valued (codes "run"))) (valued (codes "workers"))) (valued (codes "number")) in

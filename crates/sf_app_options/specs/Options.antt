@@ -47,10 +47,12 @@ unfoldable pub intake_of : Option Text → Option Intake
 intake_of None = Some intake.Lock
 intake_of (Some word) = intake_named word
 
+-- each actor has a thread
 abbrev pub is_live : Run → Bool
 is_live run.Live = true
 is_live _ = false
 
+-- transactions arrive through a queue
 abbrev pub is_queue : Intake → Bool
 is_queue intake.Queue = true
 is_queue intake.Lock = false

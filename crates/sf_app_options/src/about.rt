@@ -1,3 +1,4 @@
+//! What a word asks of the program itself: its help or its version.
 ghost use Rattle.std.specs.Prelude.{◌≡◌, map};
 ghost use Rattle.std.specs.String.{string_bytes};
 ghost use Rattle.sf_app_options.specs.Options.{about_named, about_of};
@@ -9,6 +10,7 @@ pub enum About {
     Version,
 }
 
+/// What a word asks of the program itself; None for any other word.
 #[tactic(auto, unfolding(crate::specs::Options::about_named))]
 fn about_named(word: &str) -> Option<About>
     ensures { result ≡ about_named word.now }

@@ -1,3 +1,4 @@
+//! A law about options, called for its clauses alone: what no words ask for.
 ghost use Rattle.std.specs.Prelude.{◌≡◌, [], Some, false};
 ghost use Rattle.sf_app_options.specs.Options.{options_of};
 ghost use Rattle.sf_app_options.specs.declared.options.Intake.TheVariants as intake;

@@ -1,3 +1,4 @@
+//! From the words of a command to what they ask for: `sf_app::run` begins with it.
 ghost use Rattle.std.specs.Prelude.{◌≡◌, ◌≤◌, codes, map, option_map, IfSome, IfOk};
 ghost use Rattle.std.specs.String.{string_bytes};
 ghost use Rattle.clap.specs.Words.{found_of, rows_of};
@@ -62,6 +63,7 @@ fn run_named(word: &str) -> Option<Run>
     }
 }
 
+/// Which run is asked for: `play` where nothing is said.
 #[tactic(auto, unfolding(crate::specs::Options::run_of))]
 fn run_given(given: Option<&str>) -> Option<Run>
     ensures { result ≡ run_of (option_map (λ word. word.now) given.entry) }
@@ -72,6 +74,7 @@ fn run_given(given: Option<&str>) -> Option<Run>
     }
 }
 
+/// The number that is given, if it is within these limits: 1 where nothing is said.
 #[tactic(auto, unfolding(crate::specs::Options::number_of))]
 fn number_given(given: Option<&str>, low: u64, high: u64) -> Option<u64>
     requires one { (low ≤ 1) × (1 ≤ high) }
@@ -84,6 +87,7 @@ fn number_given(given: Option<&str>, low: u64, high: u64) -> Option<u64>
     }
 }
 
+/// Whether a flag is set. clap hands a flag on as the word `true`.
 #[tactic(auto, unfolding(crate::specs::Options::is_set))]
 fn flag_given(given: Option<&str>) -> bool
     ensures { result ≡ is_set (option_map (λ word. word.now) given.entry) }
@@ -105,6 +109,7 @@ fn intake_named(word: &str) -> Option<Intake>
     }
 }
 
+/// How transactions arrive: by calls under a lock where nothing is said.
 #[tactic(auto, unfolding(crate::specs::Options::intake_of))]
 fn intake_given(given: Option<&str>) -> Option<Intake>
     ensures { result ≡ intake_of (option_map (λ word. word.now) given.entry) }
@@ -115,8 +120,8 @@ fn intake_given(given: Option<&str>) -> Option<Intake>
     }
 }
 
-// Whether these do not go together: a live run is not summed up, and in no other do transactions
-// arrive through a queue.
+/// Whether these do not go together: a live run is not summed up, and in no other do transactions
+/// arrive through a queue.
 fn do_conflict(run: Run, summary: bool, intake: Intake) -> bool
     ensures { result ≡ do_conflict (is_live run) summary (is_queue intake) }
 {
@@ -126,7 +131,7 @@ fn do_conflict(run: Run, summary: bool, intake: Intake) -> bool
     }
 }
 
-// The options, where each is right and they do not conflict.
+/// The options, where each is right and they do not conflict.
 #[tactic(auto, unfolding(crate::specs::Options::options_from))]
 fn options_from(
     run: Option<Run>,
@@ -152,7 +157,7 @@ fn options_from(
     })
 }
 
-// The options that the matches give.
+/// The options that the matches give.
 #[tactic(auto, unfolding(crate::specs::Options::options_in))]
 fn options_in(matches: &ArgMatches<'_>) -> Option<Options>
     ensures given { result ≡ options_in (rows_of (found_of matches.now)) }

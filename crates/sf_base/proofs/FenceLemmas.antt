@@ -7,27 +7,27 @@ use Rattle.sf_base.specs.Fences.{greater_of_each, open_from}
 
 -- the first places hold the greater values, the others are as they were
 unfoldable pub merged_up_to : ℕ → List ℕ → List ℕ → List ℕ
-merged_up_to place vs ws = greater_of_each (take place vs) ws ++ drop place vs
+merged_up_to index vs ws = greater_of_each (take index vs) ws ++ drop index vs
 
-pub merged_up_to-at : (place : ℕ) (vs ws : List ℕ) → place < length vs → place < length ws
-    → slice_index (merged_up_to place vs ws) place ≡ slice_index vs place
+pub merged_up_to-at : (index : ℕ) (vs ws : List ℕ) → index < length vs → index < length ws
+    → slice_index (merged_up_to index vs ws) index ≡ slice_index vs index
 unfolding merged_up_to greater_of_each
-merged_up_to-at place [] ws p q = absurd (omega (arith, p))
-merged_up_to-at place (v ∷ vs) [] p q = absurd (omega (arith, q))
+merged_up_to-at index [] ws p q = absurd (omega (arith, p))
+merged_up_to-at index (v ∷ vs) [] p q = absurd (omega (arith, q))
 merged_up_to-at zero (v ∷ vs) (w ∷ ws) p q = refl
-merged_up_to-at (suc place) (v ∷ vs) (w ∷ ws) p q = merged_up_to-at place vs ws (omega (arith, p)) (omega (arith, q))
+merged_up_to-at (suc index) (v ∷ vs) (w ∷ ws) p q = merged_up_to-at index vs ws (omega (arith, p)) (omega (arith, q))
 
-pub merged_up_to-suc : (place : ℕ) (vs ws : List ℕ) → place < length vs → place < length ws
-    → slice_set (merged_up_to place vs ws) place (max (slice_index vs place) (slice_index ws place)) ≡ merged_up_to (suc place) vs ws
+pub merged_up_to-suc : (index : ℕ) (vs ws : List ℕ) → index < length vs → index < length ws
+    → slice_set (merged_up_to index vs ws) index (max (slice_index vs index) (slice_index ws index)) ≡ merged_up_to (suc index) vs ws
 unfolding merged_up_to greater_of_each
-merged_up_to-suc place [] ws p q = absurd (omega (arith, p))
-merged_up_to-suc place (v ∷ vs) [] p q = absurd (omega (arith, q))
+merged_up_to-suc index [] ws p q = absurd (omega (arith, p))
+merged_up_to-suc index (v ∷ vs) [] p q = absurd (omega (arith, q))
 merged_up_to-suc zero (v ∷ vs) (w ∷ ws) p q = refl
-merged_up_to-suc (suc place) (v ∷ vs) (w ∷ ws) p q = ap (λ t. max v w ∷ t) (merged_up_to-suc place vs ws (omega (arith, p)) (omega (arith, q)))
+merged_up_to-suc (suc index) (v ∷ vs) (w ∷ ws) p q = ap (λ t. max v w ∷ t) (merged_up_to-suc index vs ws (omega (arith, p)) (omega (arith, q)))
 
-pub merged_up_to-all : (place : ℕ) (vs ws : List ℕ) → length vs ≤ place → merged_up_to place vs ws ≡ greater_of_each vs ws
+pub merged_up_to-all : (index : ℕ) (vs ws : List ℕ) → length vs ≤ index → merged_up_to index vs ws ≡ greater_of_each vs ws
 unfolding merged_up_to
-merged_up_to-all place vs ws h = rw (take_all place vs h, drop_all place vs h) (append-nil (greater_of_each vs ws))
+merged_up_to-all index vs ws h = rw (take_all index vs h, drop_all index vs h) (append-nil (greater_of_each vs ws))
 
 pub greater_of_each-at : (vs ws : List ℕ) → length vs ≡ length ws → (k : ℕ) → slice_index (greater_of_each vs ws) k ≡ max (slice_index vs k) (slice_index ws k)
 unfolding greater_of_each

@@ -1,4 +1,4 @@
-pub mod Deciding
+pub mod Decisions
 pub mod FenceLemmas
 pub mod Lists
 pub mod NoPoints

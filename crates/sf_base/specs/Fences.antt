@@ -1,5 +1,5 @@
 -- Fences: sets of points (timeline, value). Of each timeline the greatest value stands for all
--- its points, at the place before the timeline's number; 0 stands for none, since a point of
+-- its points, at the index before the timeline's number; 0 stands for none, since a point of
 -- value 0 is signalled from the start and changes nothing.
 use Rattle.std.specs.Prelude.{ℕ, ◌+◌, ◌-◌, ◌≤◌, ◌↔◌, max, nat_le, if◌then◌else◌}
 use Rattle.std.specs.Prelude.{List, [], ◌∷◌, replicate, slice_index, slice_set, Option, None, Some}
@@ -9,6 +9,7 @@ use Rattle.sf_base.specs.declared.fences.Seen.{Seen}
 pub record Fence : Type 0 where
   pub values : List ℕ
 
+-- the fence with these values, of each timeline one
 abbrev pub fence_from : List ℕ → Fence
 fence_from values = record { values = values }
 
@@ -24,7 +25,7 @@ no_points = record { values = replicate 64 0 }
 unfoldable pub with_point : Fence → ℕ → ℕ → Fence
 with_point fence timeline value = record { values = slice_set fence.values (timeline - 1) (max (value_of fence.values timeline) value) }
 
--- at each place the greater of two values
+-- at each index the greater of two values
 unfoldable pub greater_of_each : List ℕ → List ℕ → List ℕ
 greater_of_each [] _ = []
 greater_of_each (v ∷ vs) [] = v ∷ vs

@@ -3,6 +3,7 @@ use Rattle.std.specs.Prelude.{ℕ}
 use Rattle.sf_base.specs.declared.status.QStatus.{QStatus}
 use Rattle.sf_base.specs.declared.status.QStatus.TheVariants as status
 
+-- the number of a status in records
 abbrev pub number_of : QStatus → ℕ
 number_of status.Ok = 0
 number_of status.Stale = 1

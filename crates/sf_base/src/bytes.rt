@@ -1,3 +1,4 @@
+//! Pixels in the bytes of a buffer or a frame, four to a pixel.
 ghost use Rattle.std.specs.Prelude.{◌≡◌, ◌+◌, ◌*◌, ◌≤◌, length};
 ghost use Rattle.sf_base.specs.Bytes.{FillsSpan, pixel_in};
 

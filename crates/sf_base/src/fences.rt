@@ -1,3 +1,5 @@
+//! Fences, as sets of points of timelines, and what was seen of the timelines: a step waits by
+//! these, and a vsync is decided by them.
 ghost use Rattle.std.specs.Prelude.{◌≡◌, ◌≤◌, ◌<◌, ◌↔◌, IsNone, IsTrue, MatchOption, None, Some, OnOk, OnErr, IfOk, length, max, slice_set, ◌-◌};
 ghost use Rattle.sf_base.specs.Fences.{IsSignalled, SignalledTogether, SignalledWith, fence_from, first_open_of, greater_of_each, merged, no_points, value_of, with_point};
 
@@ -24,8 +26,8 @@ fn raise(points: &mut Points, t: TimelineId, v: u64)
     ensures raised { points.new.values ≡ slice_set points.old.values (t.0 - 1) (max (value_of points.old.values t.0) v) }
     ensures sized { length points.new.values ≡ 64 }
 {
-    let place = t.0 as usize - 1;
-    points.values[place] = points.values[place].max(v);
+    let index = t.0 as usize - 1;
+    points.values[index] = points.values[index].max(v);
 }
 
 /// Raises the value of each timeline to at least that of other points.
@@ -33,8 +35,8 @@ fn raise_all(points: &mut Points, other: &Points)
     ensures raised { points.new.values ≡ greater_of_each points.old.values other.now.values }
     ensures sized { length points.new.values ≡ 64 }
 {
-    for place in 0..64 {
-        points.values[place] = points.values[place].max(other.values[place]);
+    for index in 0..64 {
+        points.values[index] = points.values[index].max(other.values[index]);
     }
 }
 
@@ -44,9 +46,9 @@ fn first_above(points: &Points, seen: &Seen) -> Option<(TimelineId, u64)>
     ensures lowest { MatchOption result (first_open_of (fence_from points.now.values) seen.now ≡ None)
         (λ point. first_open_of (fence_from points.now.values) seen.now ≡ Some ((point.0).0, point.1)) }
 {
-    for place in 0..64 {
-        if points.values[place] > seen.values[place] {
-            return Some((TimelineId(place as u32 + 1), points.values[place]));
+    for index in 0..64 {
+        if points.values[index] > seen.values[index] {
+            return Some((TimelineId(index as u32 + 1), points.values[index]));
         }
     }
     None

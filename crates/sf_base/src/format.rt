@@ -1,3 +1,4 @@
+//! The formats of buffers, and what a reader sees of a colour in each.
 ghost use Rattle.std.specs.Prelude.{◌≡◌};
 ghost use Rattle.sf_base.specs.Formats.{seen_as, through_five_bits, through_six_bits};
 
@@ -14,7 +15,7 @@ pub enum Format {
     Rgb565,
 }
 
-// The upper 5 bits of a channel, widened to 8.
+/// The upper 5 bits of a channel, widened to 8.
 fn through_five_bits(channel: u8) -> u8
     ensures { result ≡ through_five_bits channel }
 {
@@ -22,7 +23,7 @@ fn through_five_bits(channel: u8) -> u8
     8 * kept + kept / 4
 }
 
-// The upper 6 bits of a channel, widened to 8.
+/// The upper 6 bits of a channel, widened to 8.
 fn through_six_bits(channel: u8) -> u8
     ensures { result ≡ through_six_bits channel }
 {

@@ -1,3 +1,4 @@
+//! Rectangles of pixels.
 ghost use Rattle.std.specs.Prelude.{◌≡◌, ◌<◌, ◌≤◌, ℕ, pos, int_lt, nat_le, nat_lt, ◌&&◌};
 ghost use Rattle.sf_base.specs.Geometry.{covers, is_within};
 

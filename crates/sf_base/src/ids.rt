@@ -1,3 +1,5 @@
+//! The numbers of queues, slots, actors, layers, tokens and timelines, each a type of its own.
+
 /// The number of a BufferQueue, 1 to 16.
 #[derive(Clone, Copy, Debug, PartialEq, Eq)]
 pub struct QueueId(pub u32);

@@ -1,3 +1,4 @@
+//! Want of memory, which any call that takes some may answer.
 use std::alloc::{AllocError, AllocFailed};
 
 /// Want of memory. A call that answers it has changed nothing, and hands back what it was given.

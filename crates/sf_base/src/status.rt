@@ -1,3 +1,4 @@
+//! The statuses of calls on a queue, with their numbers in records.
 ghost use Rattle.std.specs.Prelude.{◌≡◌};
 ghost use Rattle.sf_base.specs.Statuses.{number_of};
 

@@ -18,7 +18,7 @@ use Rattle.sf_calls.specs.Histories.{IsLegal, Begins, GoesOnWithout, calls_by, l
 use Rattle.atomic_table.specs.Seated.{TableId}
 use Rattle.sf_calls.specs.Passes.{TookAll}
 use Rattle.sf_calls.specs.Views.{PassView, pass_view}
-use Rattle.sf_calls.specs.Rule.{ticket_at, number_at, Fits, Kept, opened, spent, giving, given, met, Draws, Asks, Finds, PassesOn, GivesUp, Recalls}
+use Rattle.sf_calls.specs.inner.Rule.{ticket_at, number_at, Fits, Kept, opened, spent, giving, given, met, Draws, Asks, Finds, PassesOn, GivesUp, Recalls}
 use Rattle.sf_base.proofs.Lists.{inside, same_at, at_le, sum_set, two_le, sum_snoc, zero_sum}
 use Rattle.sf_calls.proofs.Histories.{begins_refl, begins_nil, begins_more, begins_trans, longer_begins, calls_here, calls-append, between, no_more}
 

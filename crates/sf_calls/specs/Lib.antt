@@ -2,5 +2,5 @@ pub mod Calling
 pub mod Histories
 pub mod Outcomes
 pub mod Passes
-pub mod Rule
 pub mod Views
+pub mod inner

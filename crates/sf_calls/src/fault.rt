@@ -1,3 +1,5 @@
+//! Why a call under a lock was not made.
+
 /// Why a call was not made. The call comes back as it was handed in.
 #[derive(Drop)]
 pub enum CallFault<C> {

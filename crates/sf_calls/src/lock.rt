@@ -1,3 +1,5 @@
+//! The lock itself, with the object that lies under it: opened with a first pass, closed when all
+//! passes are back.
 ghost use Rattle.std.specs.Prelude.{◌≡◌, ℕ, List, [], ◌∷◌, true, Some, IsOk, IfOk, IfErr, Contains};
 ghost use Rattle.sf_calls.specs.declared.object.Entry.{Entry};
 ghost use Rattle.sf_calls.specs.Histories.{IsLegal, Begins, GoesOnWithout, calls_by};
@@ -106,6 +108,7 @@ pub(crate) fn held<O>(slot: Option<O>) -> O
     }
 }
 
+/// The object of the only slot, handed back where no table could be made.
 fn first_held<O>(slots: Vec<Option<O>, Global>) -> O
     requires { (o : O) × (slots.items ≡ Some o ∷ []) }
     ensures { slots.items ≡ Some result ∷ [] }

@@ -1,3 +1,5 @@
+//! What can lie under a lock: an object whose calls have a history. Queues and arrivals are such
+//! objects.
 ghost use Rattle.std.specs.Prelude.{◌≡◌, ℕ, List, ◌∷◌};
 ghost use Rattle.sf_calls.specs.declared.object.Answer.{Answer};
 ghost use Rattle.sf_calls.specs.declared.object.Entry.{Entry};

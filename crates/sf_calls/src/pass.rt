@@ -1,3 +1,4 @@
+//! A caller's right to call the object under a lock, and what it knows of the calls so far.
 ghost use Rattle.std.specs.Prelude.{◌≡◌, ◌∷◌, true, IfOk, Contains};
 ghost use Rattle.sf_calls.specs.Calling.{Made, Waited, IfFaultNotYet, IfFaultNoMemory};
 ghost use Rattle.sf_calls.specs.Histories.{Begins, calls_by};

@@ -48,7 +48,7 @@ impl<O: Object> TableRule<
     Knows<O::PlainCall, O::PlainReply, O::Mark>,
     (Snapshot<O>, u32),
 > for LockRule<O> {
-    ghost use Rattle.sf_calls.specs.Rule.{Kept, opened};
+    ghost use Rattle.sf_calls.specs.inner.Rule.{Kept, opened};
 
     ghost holds = { λ key. Kept O.history O.mark O.answers key.0.value };
 
@@ -59,7 +59,7 @@ impl<O: Object> TableRule<
 pub struct DrawTicket;
 
 impl<O, C, R, M> Play<Option<O>, Knows<C, R, M>> for DrawTicket {
-    ghost use Rattle.sf_calls.specs.Rule.{Draws};
+    ghost use Rattle.sf_calls.specs.inner.Rule.{Draws};
 
     ghost then = { Draws };
 }
@@ -68,7 +68,7 @@ impl<O, C, R, M> Play<Option<O>, Knows<C, R, M>> for DrawTicket {
 pub struct LoadServing;
 
 impl<O: Object> Play<Option<O>, Knows<O::PlainCall, O::PlainReply, O::Mark>> for LoadServing {
-    ghost use Rattle.sf_calls.specs.Rule.{Finds};
+    ghost use Rattle.sf_calls.specs.inner.Rule.{Finds};
 
     ghost then = { Finds O.history O.mark O.answers };
 }
@@ -77,7 +77,7 @@ impl<O: Object> Play<Option<O>, Knows<O::PlainCall, O::PlainReply, O::Mark>> for
 pub struct PassOn;
 
 impl<O: Object> Play<Option<O>, Knows<O::PlainCall, O::PlainReply, O::Mark>> for PassOn {
-    ghost use Rattle.sf_calls.specs.Rule.{PassesOn};
+    ghost use Rattle.sf_calls.specs.inner.Rule.{PassesOn};
 
     ghost then = { PassesOn O.history };
 }
@@ -86,7 +86,7 @@ impl<O: Object> Play<Option<O>, Knows<O::PlainCall, O::PlainReply, O::Mark>> for
 pub struct GiveUp;
 
 impl<O, C, R, M> Play<Option<O>, Knows<C, R, M>> for GiveUp {
-    ghost use Rattle.sf_calls.specs.Rule.{GivesUp};
+    ghost use Rattle.sf_calls.specs.inner.Rule.{GivesUp};
 
     ghost then = { GivesUp };
 }
@@ -95,7 +95,7 @@ impl<O, C, R, M> Play<Option<O>, Knows<C, R, M>> for GiveUp {
 pub struct NameCaller;
 
 impl<O, C, R, M> Play<Option<O>, Knows<C, R, M>> for NameCaller {
-    ghost use Rattle.sf_calls.specs.Rule.{Asks};
+    ghost use Rattle.sf_calls.specs.inner.Rule.{Asks};
 
     ghost then = { Asks };
 }
@@ -104,7 +104,7 @@ impl<O, C, R, M> Play<Option<O>, Knows<C, R, M>> for NameCaller {
 pub struct Recall;
 
 impl<O, C, R, M> Play<Option<O>, Knows<C, R, M>> for Recall {
-    ghost use Rattle.sf_calls.specs.Rule.{Recalls};
+    ghost use Rattle.sf_calls.specs.inner.Rule.{Recalls};
 
     ghost then = { Recalls };
 }
@@ -113,7 +113,7 @@ impl<O, C, R, M> Play<Option<O>, Knows<C, R, M>> for Recall {
 pub struct SplitOff;
 
 impl<C, R, M> Split<Knows<C, R, M>> for SplitOff {
-    ghost use Rattle.sf_calls.specs.Rule.{giving, given};
+    ghost use Rattle.sf_calls.specs.inner.Rule.{giving, given};
 
     ghost left = { giving };
 
@@ -124,7 +124,7 @@ impl<C, R, M> Split<Knows<C, R, M>> for SplitOff {
 pub struct TakeIn;
 
 impl<C, R, M> Join<Knows<C, R, M>> for TakeIn {
-    ghost use Rattle.sf_calls.specs.Rule.{met, spent};
+    ghost use Rattle.sf_calls.specs.inner.Rule.{met, spent};
 
     ghost both = { met };
 

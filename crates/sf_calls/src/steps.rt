@@ -2,7 +2,7 @@
 ghost use Rattle.std.specs.Prelude.{◌≡◌, ◌≢◌, List, ℕ, ◌+◌, true, false, [], ◌∷◌, ◌++◌, Some, None, IfSome, Contains};
 ghost use Rattle.sf_calls.specs.declared.object.Entry.{Entry};
 ghost use Rattle.sf_calls.specs.Histories.{IsLegal, Begins, calls_by};
-ghost use Rattle.sf_calls.specs.Rule.{giving, given, met};
+ghost use Rattle.sf_calls.specs.inner.Rule.{giving, given, met};
 
 use crate::lock::{CallLock, held};
 use crate::object::Object;
@@ -173,6 +173,7 @@ impl<O: Object> CallLock<O> {
     }
 }
 
+/// Lets go what an exchange took out of a slot that was empty.
 fn no_object<O>(slot: Option<O>)
     requires { slot ≡ None }
 {

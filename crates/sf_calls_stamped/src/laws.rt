@@ -1,3 +1,5 @@
+//! Laws about histories whose calls have stamps, called for their clauses alone: stamps rise along
+//! a history.
 ghost use Rattle.std.specs.Prelude.{ℕ, List};
 ghost use Rattle.sf_calls.specs.declared.object.Entry.{Entry};
 ghost use Rattle.sf_calls.specs.Histories.{IsLegal};

@@ -1,3 +1,5 @@
+//! An object that stamps its calls: whatever lies under a lock in a live run, so that the calls of
+//! all objects have one order.
 use sf_calls::{Object, Outcome};
 use std::alloc::Global;
 use std::marker::Model;

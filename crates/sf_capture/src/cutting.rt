@@ -1,3 +1,5 @@
+//! From a layer tree to that of one layer with all below it, which a capture views as a display
+//! views the whole tree.
 ghost use Rattle.std.specs.Prelude.{◌≡◌, IfOk, map};
 ghost use Rattle.std.specs.Option.{option_copied};
 ghost use Rattle.sf_output_shown.specs.Cuts.{cut_layer, cut_of, relative_in};

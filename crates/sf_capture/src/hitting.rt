@@ -1,3 +1,4 @@
+//! The answer to a hit test: the layer in front at a point of a view.
 ghost use Rattle.std.specs.Prelude.{◌≡◌, find, reverse};
 ghost use Rattle.std.specs.Option.{option_copied};
 ghost use Rattle.sf_output_shown.specs.Hits.{hit_in};

@@ -17,7 +17,7 @@ use Rattle.sf_slots.specs.Effects.{nobody, dropped_first}
 use Rattle.sf_slots.specs.Replies.{refusal_of, dropped_count}
 use Rattle.sf_slots.specs.Tells.{Continues}
 use Rattle.sf_slots.specs.Told.{Told, slot_for}
-use Rattle.sf_slots.proofs.Going.{Continues-refused}
+use Rattle.sf_slots.proofs.HistoryGoesOn.{Continues-refused}
 use Rattle.sf_slots.proofs.GoingLeases.{Continues-Release, Continues-DetachRead, Continues-AttachRead}
 use Rattle.sf_slots.proofs.GoingItems.{Continues-Acquire}
 use Rattle.sf_slots.proofs.GoingSettings.{Continues-MaxAcquired, Continues-Abandon}

@@ -1,3 +1,4 @@
+//! A frame comes to the consumer: the first in line that is not late, where it is due.
 ghost use Rattle.std.specs.Prelude.{◌≡◌, ◌<◌, ◌+◌, OnErr, IfOk, Some, None, true, not, ◌||◌, is_none, length, slice_get};
 ghost use Rattle.sf_slots.specs.declared.calls.PlainCall.TheVariants as call;
 ghost use Rattle.sf_base.specs.declared.ids.ActorId.{ActorId};
@@ -84,6 +85,8 @@ fn is_early<R: Drop>(q: &Slots<R>, expected: u64) -> bool
     !either(drops_front(q, expected), front_is_due(q, expected))
 }
 
+/// The first cause that is met: abandoned; the consumer holds one buffer more than its limit; no
+/// item; the item is not due.
 fn acquire_refusal<R: Drop>(q: &Slots<R>, expected: u64) -> Option<QStatus>
     ensures refusal { result ≡ refusal_of (told_of q.now) nobody (call.Acquire expected) }
     ensures there { result ≡ None → 0 < length q.now.items }

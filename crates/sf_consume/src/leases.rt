@@ -1,3 +1,5 @@
+//! What the consumer does with a frame that it holds: release it to the queue, or detach it; and a
+//! buffer of its own is attached.
 ghost use Rattle.std.specs.Prelude.{◌≡◌, ℕ, ◌<◌, ◌≤◌, ◌-◌, ◌^◌, OnOk, OnErr, IfErr, IfOk, Some, None, false};
 ghost use Rattle.sf_slots.specs.declared.calls.PlainCall.TheVariants as call;
 ghost use Rattle.sf_base.specs.declared.ids.ActorId.{ActorId};

@@ -1,3 +1,4 @@
+//! The consumer's limit, and how it gives the queue up.
 ghost use Rattle.std.specs.Prelude.{◌≡◌, None, OnOk, OnErr, false};
 ghost use Rattle.sf_slots.specs.declared.calls.PlainCall.TheVariants as call;
 ghost use Rattle.sf_base.specs.declared.ids.ActorId.{ActorId};
@@ -11,6 +12,8 @@ ghost use Rattle.sf_slots.specs.Effects.{refusal_in, nobody};
 use sf_base::QStatus;
 use sf_slots::{Settings, Slots};
 
+/// The first cause that is met: abandoned; not 1 to 62; a producer is connected; the slots do not
+/// allow it.
 fn max_acquired_refusal<R: Drop>(q: &Slots<R>, n: u32) -> Option<QStatus>
     ensures refusal { result ≡ refusal_of (told_of q.now) nobody (call.MaxAcquired n) }
     ensures allowed { result ≡ None → forbids (told_of q.now) (usable (record q.now.settings { max_acquired = n })) ≡ false }

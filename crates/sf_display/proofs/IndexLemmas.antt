@@ -14,7 +14,7 @@ use Rattle.sf_output_shown.specs.Above.{found_above}
 use Rattle.sf_output_shown.specs.Copies.{number_of}
 use Rattle.sf_output_shown.specs.Displays.{declared, is_of, is_top, stack_by, stack_on}
 use Rattle.sf_output_shown.specs.declared.above.Wanted.TheVariants as wanted
-use Rattle.sf_display.specs.Index.{by_layer, declared_for}
+use Rattle.sf_display.specs.inner.Index.{by_layer, declared_for}
 
 -- the note of a layer is that of the first pair of its number
 noted : (pairs : List (ℕ × ℕ)) (id : LayerId) → declared_for (map by_layer pairs) id ≡ option_map_or (λ (n : ℕ × ℕ). n.1) (find (is_of id.0) pairs) 0

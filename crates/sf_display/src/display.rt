@@ -1,6 +1,8 @@
+//! From a layer tree to what one display shows: the drawn layers on its stack. `sf_output_plan`
+//! asks for it once for each display of a vsync.
 ghost use Rattle.std.specs.Option.{option_map_or};
 ghost use Rattle.std.specs.Prelude.{◌≡◌, ℕ, List, IfOk, map};
-ghost use Rattle.sf_display.specs.Index.{by_layer, declared_for};
+ghost use Rattle.sf_display.specs.inner.Index.{by_layer, declared_for};
 ghost use Rattle.sf_output_shown.specs.Above.{found_above};
 ghost use Rattle.sf_output_shown.specs.Displays.{order_on, stack_on};
 ghost use Rattle.sf_output_shown.specs.declared.above.Wanted.TheVariants as wanted;

@@ -1,3 +1,5 @@
+//! Which of the declared stacks count for the layers that a tree has now: asked once before several
+//! displays are viewed.
 ghost use Rattle.std.specs.Prelude.{◌≡◌, ℕ, IfOk, filter};
 ghost use Rattle.sf_display.specs.Stacks.{is_of_layer, stacks_in};
 ghost use Rattle.sf_output_shown.specs.Displays.{order_on};

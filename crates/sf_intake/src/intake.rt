@@ -1,3 +1,5 @@
+//! The queue through which transactions arrive without a lock, shared by reference among the
+//! threads of a live run.
 ghost use Rattle.std.specs.Prelude.{◌≡◌, IfOk};
 ghost use Rattle.sf_intake.specs.Views.{first_taker};
 
@@ -6,8 +8,7 @@ use crate::protocol::{InOneOrder, Knows};
 use crate::taker::Taker;
 use crossbeam_queue::{RuledSegQueue, SegPass};
 use sf_base::NoMemory;
-use sf_token::LeaseHome;
-use sf_token::sf_txn::Lease;
+use sf_token::{Lease, LeaseHome};
 use std::alloc::Global;
 use std::marker::Model;
 

@@ -15,6 +15,5 @@ mod taker;
 
 pub use intake::Intake;
 pub use sender::Sender;
-pub use sf_token;
-pub use sf_token::sf_txn;
+pub use sf_token::{Arrivals, ArriveCall, ArriveReply, Arrived, Batch, Lease, Transaction};
 pub use taker::Taker;

@@ -1,3 +1,4 @@
+//! The number of a sender in a type, for proofs alone.
 ghost use Rattle.std.specs.Prelude.{ℕ};
 
 use std::marker::Brand;

@@ -1,5 +1,6 @@
+//! What lies in the queue: a transaction with its sender, its step and its stamp.
 use sf_base::ActorId;
-use sf_token::sf_txn::{Lease, Transaction};
+use sf_token::{Lease, Transaction};
 use std::marker::Model;
 
 /// A transaction in the queue: who sent it, at which step, and with which stamp.

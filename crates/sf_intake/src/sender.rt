@@ -1,3 +1,4 @@
+//! An actor's side of the queue: it puts transactions in and waits for nobody.
 ghost use Rattle.std.specs.Prelude.{◌≡◌, ◌<◌, length, OnOk, IfErr};
 ghost use Rattle.sf_token.specs.Arrivals.{HoldsAll};
 ghost use Rattle.sf_intake.specs.Views.{sending, stamped_from};
@@ -5,8 +6,7 @@ ghost use Rattle.sf_intake.specs.Views.{sending, stamped_from};
 use crate::intake::{Intake, IntakePass};
 use crate::posted::Posted;
 use sf_base::{ActorId, NoMemory};
-use sf_token::LeaseHome;
-use sf_token::sf_txn::{Lease, Transaction};
+use sf_token::{Lease, LeaseHome, Transaction};
 use std::marker::Model;
 use std::sync::Wait;
 

@@ -9,8 +9,7 @@ use crate::intake::{Intake, IntakePass};
 use crate::naming::SenderNumber;
 use crate::posted::Posted;
 use crate::protocol::{Compare, Draw, Make, Note, Send, Tale};
-use sf_token::LeaseHome;
-use sf_token::sf_txn::Lease;
+use sf_token::{Lease, LeaseHome};
 use std::sync::Wait;
 
 impl<L: Lease + Drop, N: LeaseHome<L>> Intake<L, N> {

@@ -1,3 +1,5 @@
+//! The compositor's side of the queue: it takes transactions out at its vsyncs, numbers them, and
+//! takes the rest once all threads are joined.
 ghost use Rattle.std.specs.Prelude.{◌≡◌, ◌<◌, ◌≤◌, ◌+◌, ◌++◌, true, false, [], length, IfOk, IfErr, OnOk, OnErr, None, Contains};
 ghost use Rattle.std.specs.List.{All};
 ghost use Rattle.sf_intake.specs.Passes.{IsPassOf, known};
@@ -11,8 +13,7 @@ use crate::naming::SenderNumber;
 use crate::posted::Posted;
 use crate::sender::Sender;
 use sf_base::{ActorId, NoMemory};
-use sf_token::sf_txn::Lease;
-use sf_token::{Arrived, LeaseHome};
+use sf_token::{Arrived, Lease, LeaseHome};
 use std::alloc::Global;
 use std::marker::{Brand, Model, PhantomData};
 use std::mem;

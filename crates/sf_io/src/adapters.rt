@@ -1,3 +1,5 @@
+//! Sources and sinks over std's readers and writers: `sf_main` runs over standard input and output
+//! by these.
 ghost use Rattle.std.specs.Prelude.{◌≡◌, IfOk, if◌then◌else◌, is_ok, length};
 ghost use Rattle.std.specs.Io.{ReadsAtMost, WritesAtMost};
 ghost use Rattle.std.specs.Io.KnownBytes.{Keeps, ReadConsumes, WriteAppends};
@@ -8,7 +10,7 @@ use crate::{Failed, Sink, Source};
 use std::io::{ErrorKind, Read, Write};
 use std::marker::Model;
 
-// One read, tried again while signals interrupt it.
+/// One read, tried again while signals interrupt it.
 fn read_through<T: Read>(reader: &mut T, buf: &mut [u8]) -> Result<usize, Failed>
     ensures bound { ReadsAtMost result buf.new }
     ensures bytes { ReadConsumes (T.remaining reader.old) (T.remaining reader.new) result buf.new }
@@ -23,8 +25,8 @@ fn read_through<T: Read>(reader: &mut T, buf: &mut [u8]) -> Result<usize, Failed
     Err(Failed)
 }
 
-// One write, tried again while signals interrupt it. A writer that takes nothing of a piece that is
-// not empty has failed.
+/// One write, tried again while signals interrupt it. A writer that takes nothing of a piece that is
+/// not empty has failed.
 fn write_through<T: Write>(writer: &mut T, piece: &[u8]) -> Result<usize, Failed>
     ensures bound { WritesAtMost result piece.now }
     ensures some { IfOk result (λ n. n ≡ 0 → length piece.now ≡ 0) }
@@ -40,7 +42,7 @@ fn write_through<T: Write>(writer: &mut T, piece: &[u8]) -> Result<usize, Failed
     Err(Failed)
 }
 
-// One flush, tried again while signals interrupt it.
+/// One flush, tried again while signals interrupt it.
 fn flush_through<T: Write>(writer: &mut T) -> Result<(), Failed>
     ensures bytes { Keeps (T.contents writer.old) (T.contents writer.new) }
 {

@@ -1,3 +1,4 @@
+//! What holds an actor's thread before each step, as a trait, and the gate that holds none.
 use std::sync::Wait;
 
 /// What holds an actor's thread before each step, as a test does that wants two actors to meet.

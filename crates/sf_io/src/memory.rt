@@ -1,3 +1,4 @@
+//! Sources and sinks in memory whose calls fail at will, for tests.
 ghost use Rattle.std.specs.Prelude.{◌≡◌, ◌+◌, ◌↔◌, ◌∷◌, [], List, ℕ, Option, Some, length, Contains, IsErr, IfOk, if◌then◌else◌, is_ok, min};
 ghost use Rattle.std.specs.Io.{ReadsAtMost, WritesAtMost};
 ghost use Rattle.std.specs.Io.KnownBytes.{ReadConsumes, WriteAppends};

@@ -1,3 +1,4 @@
+//! A source read to its end, as a script is, and a record written to a sink.
 ghost use Rattle.std.specs.Prelude.{◌≡◌, ◌<◌, ◌≤◌, ◌+◌, ◌^◌, ◌++◌, length, IfOk, OnOk, OnErr, IsErrOf};
 ghost use Rattle.std.specs.Io.KnownBytes.{Appends, Consumes, IsAtEnd};
 ghost use Rattle.byteorder.specs.Endian.{big_bytes};
@@ -68,7 +69,7 @@ pub fn read_all<S: Source>(
     }
 }
 
-// Writes a piece, as often as it takes.
+/// Writes a piece, as often as it takes.
 fn put_piece<K: Sink>(sink: &mut K, piece: &[u8]) -> Result<(), WriteFault>
     ensures ok { OnOk result (Appends (K.taken sink.old) (K.taken sink.new) piece.now) }
     ensures err { OnErr result (TookPrefix (K.taken sink.old) (K.taken sink.new) piece.now) }
@@ -84,7 +85,7 @@ fn put_piece<K: Sink>(sink: &mut K, piece: &[u8]) -> Result<(), WriteFault>
     Ok(())
 }
 
-// The tag and the length of a record.
+/// The tag and the length of a record.
 fn head_of(tag: [u8; 4], length_of_body: u32) -> [u8; 8]
     ensures { result ≡ tag ++ big_bytes 4 length_of_body }
 {

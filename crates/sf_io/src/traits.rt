@@ -1,3 +1,5 @@
+//! Sources and sinks of bytes, as traits: what `sf_app::run` reads from and writes to. Contracts of
+//! whole runs speak of what these have left and took.
 ghost use Rattle.std.specs.Prelude.{◌≡◌, List, ℕ, Option, IfOk, length};
 ghost use Rattle.std.specs.Io.{ReadsAtMost, WritesAtMost};
 ghost use Rattle.std.specs.Io.KnownBytes.{ReadConsumes, WriteAppends};

@@ -1,3 +1,5 @@
+//! What a layer can show, which it keeps for life.
+
 /// What a layer can show. A layer keeps its kind for life.
 #[derive(Clone, Copy)]
 pub enum Kind {

@@ -1,3 +1,4 @@
+//! A layer of the tree, as plain data: all that transactions change of it.
 use crate::kind::Kind;
 use crate::parent::Parent;
 use crate::shown::Shown;

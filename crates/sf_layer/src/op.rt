@@ -1,3 +1,5 @@
+//! The operations of transactions on layers, and their ranges: a script's steps make them, a
+//! transaction keeps them, and the tree does them.
 ghost use Rattle.std.specs.Prelude.{◌≡◌, IsTrue, ◌↔◌};
 ghost use Rattle.sf_layer.specs.Kinds.{kind_of};
 ghost use Rattle.sf_layer.specs.Ranges.{IsCoordinate, IsCrop, IsInRange};
@@ -88,14 +90,14 @@ const GREATEST_CROP: u32 = 16_384;
 // The greatest orientation of a buffer: there are eight, from 0 on.
 const GREATEST_ORIENTATION: u8 = 7;
 
-// Whether it is a position or a crop's corner.
+/// Whether it is a position or a crop's corner.
 fn is_coordinate(at: i32) -> bool
     ensures { IsTrue result ↔ IsCoordinate at }
 {
     -FARTHEST <= at && at <= FARTHEST
 }
 
-// Whether it is a layer's crop.
+/// Whether it is a layer's crop.
 fn is_crop(crop: &Rect) -> bool
     ensures { IsTrue result ↔ IsCrop crop.now }
 {

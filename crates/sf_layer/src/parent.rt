@@ -1,3 +1,4 @@
+//! What a layer hangs from: the root, another layer, or nothing.
 use sf_base::LayerId;
 
 /// What a layer hangs from.

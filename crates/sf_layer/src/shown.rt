@@ -1,3 +1,4 @@
+//! The buffer that a layer shows, as plain data, with its crop.
 ghost use Rattle.std.specs.Prelude.{IsTrue, ◌↔◌};
 ghost use Rattle.sf_base.specs.Geometry.{IsWithin, LiesWithin};
 
@@ -25,7 +26,7 @@ impl Shown {
 // How wide and high a buffer is at most, in pixels.
 const GREATEST_BUFFER: u32 = 512;
 
-// Whether so many pixels from there on lie within the side of the greatest buffer.
+/// Whether so many pixels from there on lie within the side of the greatest buffer.
 fn is_inside(from: i32, extent: u32) -> bool
     ensures { IsTrue result ↔ IsWithin from extent 512 }
 {

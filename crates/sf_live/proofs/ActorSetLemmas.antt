@@ -30,7 +30,7 @@ use Rattle.law_joins.specs.law_threads.Joining.{actor_at, of_at}
 use Rattle.law_joins.specs.Joined.{IsJoined, actor_set_joined}
 use Rattle.law_joins.proofs.Ends.{all_play}
 use Rattle.law_joins.proofs.PlayerAtJoin.{actors, kept_as}
-use Rattle.sf_live.specs.Threads.{returned_actor, returned_gates}
+use Rattle.sf_live.specs.inner.Threads.{returned_actor, returned_gates}
 
 module _ {B : Type 0} (table : TableId) (pictures : ℕ → Picture) (home : DeskHome) (view : DeskView B) where
   scripts_are : (actor_set : List (Actor B)) (ofs : List (ActorOf B)) → KeepAs table pictures home view actor_set ofs → scripts_of actor_set ≡ map script_of ofs

@@ -20,7 +20,7 @@ use Rattle.sf_live_compositor.specs.sf_record.declared.encode.RunFault.{RunFault
 use Rattle.sf_live_compositor.specs.sf_record.declared.event.Event.TheVariants as event
 use Rattle.sf_live_compositor.specs.sf_record.declared.record.Record.{Record}
 use Rattle.sf_live_compositor.specs.sf_record.declared.record.Record.TheVariants as rec
-use Rattle.sf_live_compositor.specs.sf_record.declared.record.Reply.{Reply}
+use Rattle.sf_live_compositor.specs.sf_record.declared.record.ReplyRecord.{ReplyRecord}
 use Rattle.sf_live_compositor.proofs.law_played_lemmas.Members.{has_here, has_later}
 use Rattle.sf_live_compositor.proofs.law_played_lemmas.RisingNumbers.{rising_actors_are}
 use Rattle.sf_live_compositor.proofs.law_played_lemmas.RunTraces.{trace_here}
@@ -36,7 +36,7 @@ use Rattle.sf_live_compositor.specs.sf_play_write.Closings.{closing_of}
 use Rattle.sf_live_compositor.specs.sf_play_write.Writing.{CutSome, Writes, WritesPart}
 use Rattle.sf_live_compositor.proofs.sf_play_write_lemmas.ClosingLemmas.{closing_is}
 use Rattle.sf_live_compositor.proofs.sf_play_write_lemmas.WritingLemmas.{cut_part, part_front, part_more, writes_more}
-use Rattle.sf_live.specs.Rounds.{HasShownAll, all_reply_records, vsyncs_alone}
+use Rattle.sf_live.specs.inner.Rounds.{HasShownAll, all_reply_records, vsyncs_alone}
 use Rattle.sf_live.specs.Runs.{WroteLive}
 use Rattle.sf_live.proofs.RoundLemmas.{records_more}
 
@@ -62,7 +62,7 @@ pieces_part {X} f a b c xs i x below is before now =
     ∙ ap (flat_map f) (take-append-drop i xs))
     (part_more a b c (flat_map f (take i xs)) (f x ++ flat_map f (drop (i + 1) xs)) before (part_front b c (f x) (flat_map f (drop (i + 1) xs)) now))
 
-replies_alone : (replies : List Reply) → flat_map event_records (map event.Reply replies) ≡ map rec.Repl replies
+replies_alone : (replies : List ReplyRecord) → flat_map event_records (map event.Reply replies) ≡ map rec.Repl replies
 replies_alone [] = refl
 replies_alone (reply ∷ replies) = ap (λ (rs : List Record). rec.Repl reply ∷ rs) (replies_alone replies)
 

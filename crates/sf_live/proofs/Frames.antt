@@ -7,12 +7,12 @@ use Rattle.atomic_table.specs.Seated.{TableId}
 use Rattle.sf_live_compositor.specs.sf_surface.Tokens.{Issued, ReadLeaseOf}
 use Rattle.sf_turns.specs.Views.{SeatView}
 use Rattle.sf_live_compositor.specs.sf_txn.declared.lease.Lease.{Ghosts}
-use Rattle.sf_live_compositor.specs.sf_commit.declared.vsync.Commit.{Commit as Decided}
+use Rattle.sf_live_compositor.specs.sf_commit.declared.vsync.Commit.{Commit}
 use Rattle.sf_script_scene.specs.Scene.{SceneValue}
 use Rattle.sf_live_compositor.specs.sf_actor.Scripts.{picture_at}
 use Rattle.sf_live_compositor.specs.sf_record.Events.{events_records, vsync_records}
 use Rattle.sf_live_compositor.specs.sf_record.declared.event.Event.TheVariants as event
-use Rattle.sf_live_compositor.specs.sf_record.declared.event.VsyncReport.{VsyncReport as Told}
+use Rattle.sf_live_compositor.specs.sf_record.declared.event.VsyncRecords.{VsyncRecords}
 use Rattle.sf_live_compositor.specs.sf_record.declared.record.Record.{Record}
 use Rattle.sf_live_compositor.specs.sf_play_report.Reports.{has_commits}
 use Rattle.sf_live_compositor.specs.sf_play_report.Stages.{AreExpected}
@@ -30,7 +30,7 @@ use Rattle.sf_live.proofs.RoundLemmas.{records_more}
 use Rattle.sf_live.proofs.VsyncReports.{told_is}
 
 -- a vsync that commits nothing has no records
-records_told : (commits : List Decided) (told shown : Told) → shown ≡ told → records_if commits told ≡ events_records (map event.Vsync (if has_commits commits then shown ∷ [] else []))
+records_told : (commits : List Commit) (told shown : VsyncRecords) → shown ≡ told → records_if commits told ≡ events_records (map event.Vsync (if has_commits commits then shown ∷ [] else []))
 unfolding events_records
 records_told [] told shown same = refl
 records_told (commit ∷ commits) told shown same = ap vsync_records (sym same) ∙ sym (append-nil (vsync_records shown))

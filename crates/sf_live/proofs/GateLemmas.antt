@@ -1,4 +1,4 @@
--- The gates that each actor has passed, at the joins and from turn to turn.
+-- The gates that each actor has passed, at the joins and from action to action.
 use Rattle.std.proofs.Common.{◌≡◌, ℕ, zero, suc, Bool, true, false, List, [], ◌∷◌, length, map, Option, None, Some, refl, sym, ap, ◌∙◌, subst, arith}
 use Rattle.std.specs.Prelude.{◌==◌, if◌then◌else◌, nat_lt, slice_get, slice_set}
 use Rattle.std.specs.List.{AllByRecursion, AllZip, position}
@@ -21,10 +21,10 @@ use Rattle.sf_live_compositor.specs.sf_actor_set.ActorSets.{ActorSetOf, KeepAs, 
 use Rattle.sf_live_compositor.specs.sf_live_seats.declared.locks.Locks.{Locks}
 use Rattle.sf_live_compositor.specs.sf_play.Places.{settled}
 use Rattle.sf_live_compositor.specs.sf_play.Players.{PlayOf, PlayerOf}
-use Rattle.sf_live_compositor.specs.sf_play.Turning.{Picks, RoundsIf, TriesIf, TriesStep, Turns, TurnsAt, TurnsVsync, next_tried, picked_place, place_by, tried_from}
+use Rattle.sf_live_compositor.specs.sf_play.Actions.{Picks, RoundsIf, TriesIf, TriesStep, TakesAction, TakesActionAt, TakesVsync, next_tried, picked_place, place_by, tried_from}
 use Rattle.sf_live_compositor.specs.sf_play.declared.place.Place.{Place}
 use Rattle.sf_live_compositor.specs.sf_play.declared.place.Place.TheVariants as at
-use Rattle.sf_live_compositor.specs.sf_play.declared.turn.Turn.{Turn}
+use Rattle.sf_live_compositor.specs.sf_play.declared.action.Action.{Action}
 use Rattle.sf_live_compositor.specs.sf_live_threads.declared.all_returned.ReturnedActor.{ReturnedActor}
 use Rattle.sf_live_compositor.specs.sf_live_threads.declared.gates.Gates.{Gates}
 use Rattle.sf_live_compositor.specs.sf_live_threads.declared.seated_actor.SeatedActor.{SeatedActor}
@@ -33,8 +33,8 @@ use Rattle.sf_live_compositor.specs.sf_live_threads.Meeting.{as_returned}
 use Rattle.sf_live_compositor.specs.sf_live_threads.SeatedActors.{Came}
 use Rattle.sf_live_compositor.proofs.sf_live_threads_lemmas.WalkLemmas.{traces_on, within}
 use Rattle.sf_live_compositor.proofs.sf_live_threads_lemmas.Zips.{zip_long}
-use Rattle.sf_live.specs.Rounds.{PassesAt, PassesFor}
-use Rattle.sf_live.specs.Threads.{HasPassedOwn, returned_actor, returned_gates}
+use Rattle.sf_live.specs.inner.Rounds.{PassesAt, PassesFor}
+use Rattle.sf_live.specs.inner.Threads.{HasPassedOwn, returned_actor, returned_gates}
 
 module _ {B : Type 0} where
   -- what each brought back it has passed
@@ -119,8 +119,8 @@ module _ {B : Type 0} where
     step_passed table pictures home later before after place was now olds old new gates came_to passed keep.1 kept.1 here tries has.1 ready,
   )
 
--- a turn before which the gate is passed for the actor whose step it tries
-module _ {B : Type 0} {R C : Type 0} (lease : Ghosts ReadLeaseOf SeatView R C) (table : TableId) (ofs : List (ActorOf B)) (old new : PlayerOf B) (came_to : Turn) (gates ready : List Gates)
+-- an action before which the gate is passed for the actor whose step it tries
+module _ {B : Type 0} {R C : Type 0} (lease : Ghosts ReadLeaseOf SeatView R C) (table : TableId) (ofs : List (ActorOf B)) (old new : PlayerOf B) (came_to : Action) (gates ready : List Gates)
     (keep : KeepAs table (picture_at old.play.actor_set.pictures) (home_of old.play.actor_set.desk) (view_of old.play.actor_set.desk) old.play.actor_set.actors ofs)
     (has : HavePassed old.play.actor_set.actors gates) where
   abbrev HaveNow : Type 0
@@ -137,7 +137,7 @@ module _ {B : Type 0} {R C : Type 0} (lease : Ghosts ReadLeaseOf SeatView R C) (
   same_play : new.play ≡ old.play → ready ≡ gates → HaveNow
   same_play same none = subst (λ (p : PlayOf B). HavePassed p.actor_set.actors ready) (sym same) (subst (HavePassed old.play.actor_set.actors) (sym none) has)
 
-  vsync : TurnsVsync lease table ofs old new came_to → ready ≡ gates → HaveNow
+  vsync : TakesVsync lease table ofs old new came_to → ready ≡ gates → HaveNow
   vsync turns none =
       let m = turns.makes.makes in
       let actors : new.play.actor_set.actors ≡ old.play.actor_set.actors =
@@ -156,12 +156,12 @@ module _ {B : Type 0} {R C : Type 0} (lease : Ghosts ReadLeaseOf SeatView R C) (
   round true place stepped goes passes = tried place goes.tries passes
   round false place stepped ends passes = vsync ends.vsync passes
 
-  at_place : (place : Place) → TurnsAt lease table ofs place old new came_to → PassesFor (tried_from old.play place) old.play.actor_set.actors gates ready → HaveNow
+  at_place : (place : Place) → TakesActionAt lease table ofs place old new came_to → PassesFor (tried_from old.play place) old.play.actor_set.actors gates ready → HaveNow
   at_place (at.Order place done) takes passes =
       picked takes.pick.actor takes.picks
       (subst (λ (p : Option Pick). PassesFor (place_by old.play.actor_set.actors p) old.play.actor_set.actors gates ready) takes.there passes)
   at_place (at.Round place stepped) rounds passes = round (nat_lt place (length old.play.actor_set.actors)) place stepped rounds passes
   at_place at.End ends passes = same_play (ap (λ (p : PlayerOf B). p.play) ends.1) passes
 
-  pub turned : Turns lease table ofs old new came_to → PassesFor (next_tried old) old.play.actor_set.actors gates ready → HaveNow
+  pub turned : TakesAction lease table ofs old new came_to → PassesFor (next_tried old) old.play.actor_set.actors gates ready → HaveNow
   turned turns passes = at_place (settled old.play.order old.place) turns passes

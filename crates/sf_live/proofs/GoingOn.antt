@@ -12,7 +12,7 @@ use Rattle.sf_live_compositor.specs.sf_actor.Scripts.{picture_at}
 use Rattle.sf_live_compositor.specs.sf_actor_set.ActorSets.{ActorSetOf}
 use Rattle.sf_live_compositor.specs.sf_record.Events.{events_records}
 use Rattle.sf_live_compositor.specs.sf_record.declared.event.Event.TheVariants as event
-use Rattle.sf_live_compositor.specs.sf_record.declared.event.VsyncReport.{VsyncReport}
+use Rattle.sf_live_compositor.specs.sf_record.declared.event.VsyncRecords.{VsyncRecords}
 use Rattle.sf_live_compositor.specs.law_played.Frames.{plan_of}
 use Rattle.sf_live_compositor.specs.law_played.Played.{opening}
 use Rattle.sf_live_compositor.specs.law_played.Vsyncs.{vsyncs_in}
@@ -27,9 +27,9 @@ use Rattle.law_joins.specs.Joined.{player_joined, so_joined}
 use Rattle.law_joins.specs.Logs.{reports_of}
 use Rattle.sf_live.specs.declared.threads.Joined.{Joined}
 use Rattle.sf_live_compositor.specs.sf_output_screen.declared.screens.OutputScreen.{OutputScreen}
-use Rattle.sf_live.specs.Resuming.{GoesFrom, HasCome}
-use Rattle.sf_live.specs.Rounds.{HasShown}
-use Rattle.sf_live.specs.Threads.{IsTogether, RunOf}
+use Rattle.sf_live.specs.inner.Resuming.{GoesFrom, HasCome}
+use Rattle.sf_live.specs.inner.Rounds.{HasShown}
+use Rattle.sf_live.specs.inner.Threads.{IsTogether, RunOf}
 use Rattle.sf_live.proofs.Frames.{all_found, log_records_are}
 
 module _ {B : Type 0} (lease : Ghosts ReadLeaseOf SeatView ReadLeaseOf Issued) (table : TableId) (run : RunOf B) (locks : Locks B) (joined : Joined B) (start : Option (List ℕ)) (period : ℕ) (order : List Pick)
@@ -52,7 +52,7 @@ module _ {B : Type 0} (lease : Ghosts ReadLeaseOf SeatView ReadLeaseOf Issued) (
           stands = subst (StandsInRun table run.scene (so_joined lease run.scene table run.scene.period (most_layers run.scene.version) locks run.last t.ends t.desk t.is)) (sym (is ∙ same_player)) stands;
           planned = refl;
           rising = goes.rising;
-          written = subst (λ (vs : List VsyncReport). Writes start run.now (opening run.scene ∷ events_records (map event.Vsync vs))) (sym reports)
+          written = subst (λ (vs : List VsyncRecords). Writes start run.now (opening run.scene ∷ events_records (map event.Vsync vs))) (sym reports)
               (writes_more start run.before run.now (opening run.scene ∷ []) (events_records (map event.Vsync (reports_of lease table locks run.scene.period run.scene log))) goes.begun
               (subst (Writes run.before run.now) are wrote.0));
           shown = wrote.1;

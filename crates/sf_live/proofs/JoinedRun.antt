@@ -30,7 +30,7 @@ use Rattle.law_joins.specs.SeatedActors.{IsUnused, WalkedBack, actor_of_seated}
 use Rattle.law_joins.proofs.WalkingBack.{all_walked}
 use Rattle.sf_live.specs.declared.opening.Opened.{Opened}
 use Rattle.sf_live.specs.Openings.{IsOpen}
-use Rattle.sf_live.specs.Threads.{AreClosedTo, HasPassedOwn, HasRun, RunOf, returned_actor}
+use Rattle.sf_live.specs.inner.Threads.{AreClosedTo, HasPassedOwn, HasRun, RunOf, returned_actor}
 use Rattle.sf_live.proofs.GateLemmas.{brought_back}
 
 module _ {B : Type 0} where

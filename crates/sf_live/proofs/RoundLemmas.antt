@@ -8,16 +8,16 @@ use Rattle.atomic_table.specs.Seated.{TableId}
 use Rattle.sf_picture.specs.declared.picture.Picture.{Picture}
 use Rattle.sf_live_compositor.specs.sf_output_plan.declared.plan.Plan.{Plan}
 use Rattle.sf_live_compositor.specs.sf_commit.Handlers.{HandlerOf}
-use Rattle.sf_live_compositor.specs.sf_commit.declared.vsync.Commit.{Commit as Decided}
+use Rattle.sf_live_compositor.specs.sf_commit.declared.vsync.Commit.{Commit}
 use Rattle.sf_live_compositor.specs.sf_surface.Tokens.{ReadLeaseOf}
 use Rattle.sf_script_scene.specs.Scene.{SceneValue}
 use Rattle.sf_live_compositor.specs.sf_actor.Scripts.{picture_at}
 use Rattle.sf_live_compositor.specs.sf_record.Events.{event_records, events_records, vsync_records}
 use Rattle.sf_live_compositor.specs.sf_record.declared.event.Event.{Event}
 use Rattle.sf_live_compositor.specs.sf_record.declared.event.Event.TheVariants as event
-use Rattle.sf_live_compositor.specs.sf_record.declared.event.VsyncReport.{VsyncReport as Told}
+use Rattle.sf_live_compositor.specs.sf_record.declared.event.VsyncRecords.{VsyncRecords}
 use Rattle.sf_live_compositor.specs.sf_record.declared.record.Record.{Record}
-use Rattle.sf_live_compositor.specs.sf_record.declared.record.Reply.{Reply}
+use Rattle.sf_live_compositor.specs.sf_record.declared.record.ReplyRecord.{ReplyRecord}
 use Rattle.sf_live_compositor.specs.sf_play_report.Reports.{has_commits}
 use Rattle.sf_live_compositor.specs.sf_play_report.Stages.{AreExpected, IsStage}
 use Rattle.sf_live_compositor.specs.sf_play_report.declared.report.VsyncReport.{VsyncReport}
@@ -32,85 +32,85 @@ use Rattle.sf_live_compositor.specs.sf_play.Happening.{VsyncHappens}
 use Rattle.sf_live_compositor.specs.sf_play.Players.{PlayOf, PlayerOf, SoFar}
 use Rattle.sf_live_compositor.specs.sf_play.Playing.{expected_by}
 use Rattle.sf_live_compositor.specs.sf_play.Showing.{vsync_shown as play_shown}
-use Rattle.sf_live_compositor.specs.sf_play.declared.turn.Turn.{Turn}
-use Rattle.sf_live_compositor.specs.sf_play.declared.turn.Turn.TheVariants as turn
-use Rattle.sf_live_compositor.specs.sf_play_write.Turns.{is_end}
+use Rattle.sf_live_compositor.specs.sf_play.declared.action.Action.{Action}
+use Rattle.sf_live_compositor.specs.sf_play.declared.action.Action.TheVariants as action
+use Rattle.sf_live_compositor.specs.sf_play_write.inner.Rows.{is_end}
 use Rattle.sf_live_compositor.specs.sf_play_write.Vsyncs.{records_if, told_with}
 use Rattle.sf_live_compositor.specs.sf_play_write.Writing.{CutSome, Writes, WritesPart}
 use Rattle.sf_live_compositor.proofs.sf_play_write_lemmas.WritingLemmas.{cut_part, part_more, part_whole, writes_more}
-use Rattle.sf_live.specs.Rounds.{HasShown, MayWriteTurn, ShowsOn, turn_written, vsyncs_alone}
+use Rattle.sf_live.specs.inner.Rounds.{HasShown, MayWriteAction, ShowsOn, action_written, vsyncs_alone}
 use Rattle.sf_live.proofs.VsyncReports.{told_is}
 
 vsyncs_more : (events : List Event) (one : Event) → vsyncs_in (events ++ one ∷ []) ≡ vsyncs_in events ++ vsync_in one
 unfolding vsyncs_in
-vsyncs_more events one = flat_map-append vsync_in events (one ∷ []) ∙ ap (λ (vs : List Told). flat_map vsync_in events ++ vs) (append-nil (vsync_in one))
+vsyncs_more events one = flat_map-append vsync_in events (one ∷ []) ∙ ap (λ (vs : List VsyncRecords). flat_map vsync_in events ++ vs) (append-nil (vsync_in one))
 
 -- a reply is no vsync
-with_reply : (events : List Event) (reply : Reply) → vsyncs_alone (events ++ event.Reply reply ∷ []) ≡ vsyncs_alone events
+with_reply : (events : List Event) (reply : ReplyRecord) → vsyncs_alone (events ++ event.Reply reply ∷ []) ≡ vsyncs_alone events
 with_reply events reply = ap (map event.Vsync) (vsyncs_more events (event.Reply reply) ∙ append-nil (vsyncs_in events))
 
-with_vsync : (events : List Event) (told : Told) → vsyncs_alone (events ++ event.Vsync told ∷ []) ≡ vsyncs_alone events ++ event.Vsync told ∷ []
+with_vsync : (events : List Event) (told : VsyncRecords) → vsyncs_alone (events ++ event.Vsync told ∷ []) ≡ vsyncs_alone events ++ event.Vsync told ∷ []
 with_vsync events told = ap (map event.Vsync) (vsyncs_more events (event.Vsync told)) ∙ map-append event.Vsync (vsyncs_in events) (told ∷ [])
 
 pub records_more : (events more : List Event) → events_records (events ++ more) ≡ events_records events ++ events_records more
 unfolding events_records
 records_more events more = flat_map-append event_records events more
 
-one_vsync : (told : Told) → events_records (event.Vsync told ∷ []) ≡ vsync_records told
+one_vsync : (told : VsyncRecords) → events_records (event.Vsync told ∷ []) ≡ vsync_records told
 unfolding events_records
 one_vsync told = append-nil (vsync_records told)
 
-vsync_records_more : (events : List Event) (told : Told) → events_records (vsyncs_alone events) ++ vsync_records told ≡ events_records (vsyncs_alone (events ++ event.Vsync told ∷ []))
+vsync_records_more : (events : List Event) (told : VsyncRecords) → events_records (vsyncs_alone events) ++ vsync_records told ≡ events_records (vsyncs_alone (events ++ event.Vsync told ∷ []))
 vsync_records_more events told =
     ap (λ (rs : List Record). events_records (vsyncs_alone events) ++ rs) (sym (one_vsync told))
     ∙ sym (records_more (vsyncs_alone events) (event.Vsync told ∷ []))
     ∙ ap events_records (sym (with_vsync events told))
 
 module _ {B : Type 0} where
-  -- a turn that is no vsync has no records
-  pub none_written : (pictures : ℕ → Picture) (plan : Plan) (timelines : List ℕ) (player : PlayerOf B) (came_to : Turn) → ((place : ℕ) × (came_to ≡ turn.Step place)) ⊎ ((came_to ≡ turn.Idle) ⊎ (came_to ≡ turn.End))
-      → [] ≡ turn_written pictures plan timelines player came_to
+  -- an action that is no vsync has no records
+  pub none_written : (pictures : ℕ → Picture) (plan : Plan) (timelines : List ℕ) (player : PlayerOf B) (came_to : Action) → ((place : ℕ) × (came_to ≡ action.Step place)) ⊎ ((came_to ≡ action.Idle) ⊎ (came_to ≡ action.End))
+      → [] ≡ action_written pictures plan timelines player came_to
   none_written pictures plan timelines player came_to is = elim is [
-    | inl step ↦ ap (turn_written pictures plan timelines player) (sym step.1)
+    | inl step ↦ ap (action_written pictures plan timelines player) (sym step.1)
     | inr other ↦ elim other [
-      | inl idle ↦ ap (turn_written pictures plan timelines player) (sym idle)
-      | inr end ↦ ap (turn_written pictures plan timelines player) (sym end)
+      | inl idle ↦ ap (action_written pictures plan timelines player) (sym idle)
+      | inr end ↦ ap (action_written pictures plan timelines player) (sym end)
     ]
   ]
 
   vsync_is : (scene : SceneValue) (timelines : List ℕ) (report : VsyncReport) (play : PlayOf B) (so later : SoFar B) → timelines ≡ rising_timelines scene
-      → (commits : List Decided) → VsyncHappens scene (has_commits commits) report play so later
+      → (commits : List Commit) → VsyncHappens scene (has_commits commits) report play so later
       → events_records (vsyncs_alone so.events) ++ records_if commits (told_with (picture_at scene.pictures) (plan_of scene) timelines report play.handler.tree.layers) ≡ events_records (vsyncs_alone later.events)
   vsync_is scene timelines report play so later rising [] happens =
       append-nil (events_records (vsyncs_alone so.events)) ∙ sym (ap (λ (s : SoFar B). events_records (vsyncs_alone s.events)) happens)
   vsync_is scene timelines report play so later rising (commit ∷ commits) happens =
       let told = play_shown scene report.number report.expected report.seen report.commits play.handler.tree in
-      ap (λ (v : Told). events_records (vsyncs_alone so.events) ++ vsync_records v) (sym (told_is scene timelines report play.handler.tree rising))
+      ap (λ (v : VsyncRecords). events_records (vsyncs_alone so.events) ++ vsync_records v) (sym (told_is scene timelines report play.handler.tree rising))
       ∙ vsync_records_more so.events told
       ∙ sym (ap (λ (s : SoFar B). events_records (vsyncs_alone s.events)) happens)
 
-  -- the records of a turn follow those of the vsyncs before
-  turn_records : (table : TableId) (scene : SceneValue) (plan : Plan) (timelines : List ℕ) (so : SoFar B) (came_to : Turn) (player : PlayerOf B) → plan ≡ plan_of scene → timelines ≡ rising_timelines scene
+  -- the records of an action follow those of the vsyncs before
+  action_records : (table : TableId) (scene : SceneValue) (plan : Plan) (timelines : List ℕ) (so : SoFar B) (came_to : Action) (player : PlayerOf B) → plan ≡ plan_of scene → timelines ≡ rising_timelines scene
       → (goes : GoesOn table scene so came_to player)
-      → events_records (vsyncs_alone so.events) ++ turn_written (picture_at scene.pictures) plan timelines player came_to ≡ events_records (vsyncs_alone goes.later.events)
-  turn_records table scene plan timelines so (turn.Step place) player planned rising goes =
+      → events_records (vsyncs_alone so.events) ++ action_written (picture_at scene.pictures) plan timelines player came_to ≡ events_records (vsyncs_alone goes.later.events)
+  action_records table scene plan timelines so (action.Step place) player planned rising goes =
       let did = goes.happens in
       append-nil (events_records (vsyncs_alone so.events))
       ∙ ap events_records (sym (with_reply so.events (reply_shown did.reply)))
       ∙ sym (ap (λ (s : SoFar B). events_records (vsyncs_alone s.events)) did.is)
-  turn_records table scene plan timelines so (turn.Vsync report) player planned rising goes =
+  action_records table scene plan timelines so (action.Vsync report) player planned rising goes =
       ap (λ (p : Plan). events_records (vsyncs_alone so.events) ++ records_if report.commits (told_with (picture_at scene.pictures) p timelines report player.play.handler.tree.layers)) planned
       ∙ vsync_is scene timelines report player.play so goes.later rising report.commits goes.happens
-  turn_records table scene plan timelines so turn.Idle player planned rising goes =
+  action_records table scene plan timelines so action.Idle player planned rising goes =
       append-nil (events_records (vsyncs_alone so.events)) ∙ sym (ap (λ (s : SoFar B). events_records (vsyncs_alone s.events)) goes.happens)
-  turn_records table scene plan timelines so turn.End player planned rising goes =
+  action_records table scene plan timelines so action.End player planned rising goes =
       append-nil (events_records (vsyncs_alone so.events)) ∙ sym (ap (λ (s : SoFar B). events_records (vsyncs_alone s.events)) goes.happens)
 
-  pub may_write : (table : TableId) (scene : SceneValue) (plan : Plan) (so : SoFar B) (came_to : Turn) (player : PlayerOf B) → plan ≡ plan_of scene → GoesOn table scene so came_to player → MayWriteTurn scene plan came_to player
-  may_write table scene plan so (turn.Step place) player planned goes = tt
-  may_write table scene plan so (turn.Vsync report) player planned goes = (planned, goes.tells)
-  may_write table scene plan so turn.Idle player planned goes = tt
-  may_write table scene plan so turn.End player planned goes = tt
+  pub may_write : (table : TableId) (scene : SceneValue) (plan : Plan) (so : SoFar B) (came_to : Action) (player : PlayerOf B) → plan ≡ plan_of scene → GoesOn table scene so came_to player → MayWriteAction scene plan came_to player
+  may_write table scene plan so (action.Step place) player planned goes = tt
+  may_write table scene plan so (action.Vsync report) player planned goes = (planned, goes.tells)
+  may_write table scene plan so action.Idle player planned goes = tt
+  may_write table scene plan so action.End player planned goes = tt
 
   -- what there is to show after a vsync, for the handler as the player tells it
   pub stage_told : (scene : SceneValue) (plan : Plan) (report : VsyncReport) (player : PlayerOf B) (handler : HandlerOf ReadLeaseOf) → (plan ≡ plan_of scene) × TellsStage scene report player.play → handler ≡ player.play.handler
@@ -123,45 +123,45 @@ module _ {B : Type 0} where
       → AreExpected expected_by (picture_at scene.pictures) handler
   expected_told scene plan report player handler tells same = subst (AreExpected expected_by (picture_at scene.pictures)) (sym same) tells.1.expected
 
-  -- a turn was written behind what was written before
-  goes_on : (table : TableId) (scene : SceneValue) (plan : Plan) (timelines : List ℕ) (start a b : Option (List ℕ)) (before screens : List OutputScreen) (old player : PlayerOf B) (came_to : Turn)
+  -- an action was written behind what was written before
+  goes_on : (table : TableId) (scene : SceneValue) (plan : Plan) (timelines : List ℕ) (start a b : Option (List ℕ)) (before screens : List OutputScreen) (old player : PlayerOf B) (came_to : Action)
       (has : HasShown table scene plan timelines start a before old) → GoesOn table scene has.so came_to player
-      → Writes a b (turn_written (picture_at scene.pictures) plan timelines player came_to) → AreShown (picture_at scene.pictures) screens
+      → Writes a b (action_written (picture_at scene.pictures) plan timelines player came_to) → AreShown (picture_at scene.pictures) screens
       → HasShown table scene plan timelines start b screens player
   goes_on table scene plan timelines start a b before screens old player came_to has goes now shown = record {
     so = goes.later;
     stands = goes.stands;
     planned = has.planned;
     rising = has.rising;
-    written = subst (Writes start b) (ap (λ (rs : List Record). opening scene ∷ rs) (turn_records table scene plan timelines has.so came_to player has.planned has.rising goes))
-        (writes_more start a b (opening scene ∷ events_records (vsyncs_alone has.so.events)) (turn_written (picture_at scene.pictures) plan timelines player came_to) has.written now);
+    written = subst (Writes start b) (ap (λ (rs : List Record). opening scene ∷ rs) (action_records table scene plan timelines has.so came_to player has.planned has.rising goes))
+        (writes_more start a b (opening scene ∷ events_records (vsyncs_alone has.so.events)) (action_written (picture_at scene.pictures) plan timelines player came_to) has.written now);
     shown = shown;
   }
 
-  pub shows_on : (table : TableId) (scene : SceneValue) (plan : Plan) (timelines : List ℕ) (start a b : Option (List ℕ)) (before screens : List OutputScreen) (old player : PlayerOf B) (came_to : Turn)
+  pub shows_on : (table : TableId) (scene : SceneValue) (plan : Plan) (timelines : List ℕ) (start a b : Option (List ℕ)) (before screens : List OutputScreen) (old player : PlayerOf B) (came_to : Action)
       (has : HasShown table scene plan timelines start a before old) → GoesOn table scene has.so came_to player
-      → Writes a b (turn_written (picture_at scene.pictures) plan timelines player came_to) → AreShown (picture_at scene.pictures) screens
+      → Writes a b (action_written (picture_at scene.pictures) plan timelines player came_to) → AreShown (picture_at scene.pictures) screens
       → ShowsOn (not (is_end came_to)) table scene plan timelines start b screens player
   unfolding goes_on
-  shows_on table scene plan timelines start a b before screens old player turn.End has goes now shown =
-      let on = goes_on table scene plan timelines start a b before screens old player turn.End has goes now shown in
+  shows_on table scene plan timelines start a b before screens old player action.End has goes now shown =
+      let on = goes_on table scene plan timelines start a b before screens old player action.End has goes now shown in
       record { so = goes.later; stands = goes.stands; written = on.written; ends = goes.tells }
-  shows_on table scene plan timelines start a b before screens old player (turn.Step place) has goes now shown =
-      goes_on table scene plan timelines start a b before screens old player (turn.Step place) has goes now shown
-  shows_on table scene plan timelines start a b before screens old player turn.Idle has goes now shown =
-      goes_on table scene plan timelines start a b before screens old player turn.Idle has goes now shown
-  shows_on table scene plan timelines start a b before screens old player (turn.Vsync report) has goes now shown =
-      goes_on table scene plan timelines start a b before screens old player (turn.Vsync report) has goes now shown
+  shows_on table scene plan timelines start a b before screens old player (action.Step place) has goes now shown =
+      goes_on table scene plan timelines start a b before screens old player (action.Step place) has goes now shown
+  shows_on table scene plan timelines start a b before screens old player action.Idle has goes now shown =
+      goes_on table scene plan timelines start a b before screens old player action.Idle has goes now shown
+  shows_on table scene plan timelines start a b before screens old player (action.Vsync report) has goes now shown =
+      goes_on table scene plan timelines start a b before screens old player (action.Vsync report) has goes now shown
 
-  -- nothing more was written, or a part of a turn
+  -- nothing more was written, or a part of an action
   pub cut_before : (table : TableId) (scene : SceneValue) (plan : Plan) (timelines : List ℕ) (start a : Option (List ℕ)) (before : List OutputScreen) (old : PlayerOf B) → HasShown table scene plan timelines start a before old
       → CutSome start a
   cut_before table scene plan timelines start a before old has =
       let records = opening scene ∷ events_records (vsyncs_alone has.so.events) in
       cut_part start a records (part_whole start a records has.written)
 
-  pub turn_cut : (table : TableId) (scene : SceneValue) (plan : Plan) (timelines : List ℕ) (start a b : Option (List ℕ)) (before : List OutputScreen) (old : PlayerOf B) (more : List Record)
+  pub action_cut : (table : TableId) (scene : SceneValue) (plan : Plan) (timelines : List ℕ) (start a b : Option (List ℕ)) (before : List OutputScreen) (old : PlayerOf B) (more : List Record)
       → HasShown table scene plan timelines start a before old → WritesPart a b more → CutSome start b
-  turn_cut table scene plan timelines start a b before old more has part =
+  action_cut table scene plan timelines start a b before old more has part =
       let records = opening scene ∷ events_records (vsyncs_alone has.so.events) in
       cut_part start b (records ++ more) (part_more start a b records more has.written part)

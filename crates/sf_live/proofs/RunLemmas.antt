@@ -30,7 +30,7 @@ use Rattle.sf_live_compositor.specs.sf_output_screen.ScreenLists.{AreShown}
 use Rattle.sf_live_compositor.specs.sf_output_screen.Screens.{IsShown}
 use Rattle.sf_live_compositor.specs.sf_output_screen.declared.screens.OutputScreen.{OutputScreen}
 use Rattle.sf_live_compositor.specs.sf_play_write.Writing.{CutSome, Writes}
-use Rattle.sf_live_compositor.proofs.sf_play_write_lemmas.TurnLemmas.{timelines_within}
+use Rattle.sf_live_compositor.proofs.sf_play_write_lemmas.ActionLemmas.{timelines_within}
 use Rattle.sf_live_compositor.proofs.sf_play_write_lemmas.WritingLemmas.{cut_none, cut_part, part_whole, some_whole, writes_none}
 use Rattle.sf_live_compositor.specs.sf_live_seats.declared.first.FirstSeats.{FirstSeats}
 use Rattle.sf_live_compositor.specs.sf_live_seats.declared.locks.Locks.{Locks}
@@ -48,10 +48,10 @@ use Rattle.sf_live_compositor.specs.Vsyncs.{Begin}
 use Rattle.sf_live.specs.declared.opening.Opened.{Opened}
 use Rattle.sf_live.specs.declared.threads.Joined.{Joined}
 use Rattle.sf_live.specs.Openings.{IsOpen}
-use Rattle.sf_live.specs.Running.{CameTogether, MayRun, Starts, WasCut, run_by}
-use Rattle.sf_live.specs.Resuming.{GoesFrom, HasCome}
+use Rattle.sf_live.specs.inner.Running.{CameTogether, MayRun, Starts, WasCut, run_by}
+use Rattle.sf_live.specs.inner.Resuming.{GoesFrom, HasCome}
 use Rattle.sf_live.specs.Runs.{LiveEnded}
-use Rattle.sf_live.specs.Threads.{HasRun, IsTogether, RunOf}
+use Rattle.sf_live.specs.inner.Threads.{HasRun, IsTogether, RunOf}
 use Rattle.sf_live.proofs.JoinedRun.{has_given, has_run}
 
 pub of_err : {X E : Type 0} (P : E → Type 0) (rest : Result X E) (e : E) → rest ≡ Err e → IfErr rest P → P e
@@ -243,9 +243,9 @@ module _ {K B : Type 0} {naming : Naming B} (taken : K → Option (List ℕ)) (f
 
 -- a compositor of the scene that is opened may start
 pub starts_here : {K B : Type 0} {naming : Naming B} {table : TableId} {before after : Option (List ℕ)} {period : ℕ} {order : List Pick} {handler : HandlerOf ReadLeaseOf} {opened : Opened B} (c : Compositor K B naming) (scene : SceneValue)
-    → MayRun table scene before after c.timelines.items c.plan period order handler opened → c.decider.handler ≡ handler → c.vsyncs ≡ 0 → c.due ≡ None → c.fault ≡ None → c.screens ≡ [] → c.period ≡ period → 1 ≤ c.workers → c.workers ≤ 16
+    → MayRun table scene before after c.timelines.items c.plan period order handler opened → c.decider.handler ≡ handler → c.vsyncs ≡ 0 → c.due ≡ None → c.fault ≡ None → c.screens ≡ [] → c.period ≡ period
     → Starts scene c
-starts_here c scene may handler none none_due fine screens period some few = record {
+starts_here c scene may handler none none_due fine screens period = record {
   handler = handler ∙ may.handler_is;
   none_made = none;
   none_due = none_due;
@@ -254,8 +254,6 @@ starts_here c scene may handler none none_due fine screens period some few = rec
   screens = screens;
   period = period ∙ may.same_period;
   set = record {
-    some = some;
-    few = few;
     short = subst (λ (p : ℕ). p ≤ 1000000000) (sym (period ∙ may.same_period)) may.opens.limits.header.high_period;
     planned = subst IsPlan (sym may.planned) (is_plan scene may.opens.limits);
     ranges = timelines_within scene c.timelines.items may.opens.limits may.rising;

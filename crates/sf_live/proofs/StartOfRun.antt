@@ -14,7 +14,7 @@ use Rattle.sf_live_compositor.specs.law_played.Vsyncs.{rising_timelines}
 use Rattle.sf_live_compositor.specs.sf_play_write.Writing.{Writes}
 use Rattle.sf_live.specs.declared.opening.Opened.{Opened}
 use Rattle.sf_live.specs.Openings.{IsOpen}
-use Rattle.sf_live.specs.Running.{MayRun}
+use Rattle.sf_live.specs.inner.Running.{MayRun}
 
 -- the parts of a scene are those of one
 abbrev pub of_scene : (scene inside : SceneValue) (queues : List QueueDecl) → inside ≡ scene → IsWithinLimits inside → queues ≡ inside.queues → AreOfScene queues inside.pictures inside.actors

@@ -18,7 +18,7 @@ use Rattle.law_joins.specs.Joined.{IsJoined, actor_set_joined}
 use Rattle.sf_live.specs.declared.threads.Joined.{Joined}
 use Rattle.sf_live_compositor.specs.sf_live_threads.declared.gates.Gates.{Gates}
 use Rattle.sf_live_compositor.specs.sf_live_threads.Gates.{HavePassed}
-use Rattle.sf_live.specs.Threads.{AreClosedTo, HasRun, IsTogether, RunOf, returned_actor, returned_gates}
+use Rattle.sf_live.specs.inner.Threads.{AreClosedTo, HasRun, IsTogether, RunOf, returned_actor, returned_gates}
 use Rattle.sf_live.proofs.GateLemmas.{apart}
 use Rattle.sf_live.proofs.ActorSetLemmas.{is_actor_set}
 

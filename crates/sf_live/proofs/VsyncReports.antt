@@ -1,7 +1,7 @@
 -- What is told of a vsync of a scene is what is shown of its report by the scene's plan.
 use Rattle.std.proofs.Common.{◌≡◌, ℕ, ◌==◌, ◌||◌, Bool, if◌then◌else◌, List, [], ◌∷◌, map, ap, refl, sym}
 use Rattle.std.specs.List.{list_any}
-use Rattle.sf_live_compositor.specs.sf_commit.declared.vsync.Commit.{Commit as Decided}
+use Rattle.sf_live_compositor.specs.sf_commit.declared.vsync.Commit.{Commit}
 use Rattle.sf_live_compositor.specs.sf_tree.Trees.{TreeOf}
 use Rattle.sf_script_scene.specs.Scene.{SceneValue}
 use Rattle.sf_live_compositor.specs.sf_actor.Scripts.{picture_at}
@@ -15,7 +15,7 @@ use Rattle.sf_live_compositor.specs.sf_play.Showing.{vsync_shown}
 use Rattle.sf_live_compositor.specs.sf_play_write.Vsyncs.{told_with}
 
 -- something is due where a commit was accepted
-shown_done : (commits : List Decided) → list_any is_done (map commit_shown commits) ≡ list_any is_accepted commits
+shown_done : (commits : List Commit) → list_any is_done (map commit_shown commits) ≡ list_any is_accepted commits
 shown_done [] = refl
 shown_done (commit ∷ commits) = ap (λ (b : Bool). (commit.cause == 0) || b) (shown_done commits)
 

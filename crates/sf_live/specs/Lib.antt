@@ -1,9 +1,6 @@
 pub mod Openings
-pub mod Resuming
-pub mod Rounds
-pub mod Running
 pub mod Runs
-pub mod Threads
+pub mod inner
 pub use Rattle.sf_live_compositor.specs.law_played
 pub use Rattle.sf_live_compositor.specs.sf_actor
 pub use Rattle.sf_live_compositor.specs.sf_actor_set

@@ -12,11 +12,9 @@ use Rattle.sf_turns.specs.Counts.{range}
 use Rattle.sf_turns.specs.Views.{SeatView, StockView}
 use Rattle.sf_live_compositor.specs.sf_actor_set.Scripts.{permits_of}
 
--- A scene may be run live: 1 to 16 workers compose each frame, and the run takes the seat and the whole stock of a table of turns, with a permit for
+-- A scene may be run live: the run takes the seat and the whole stock of a table of turns, with a permit for
 -- each dequeue. The seat is the first one, gave none and left no turn.
-pub record MayLive (table : TableId) (workers : ℕ) (scene : SceneValue) (seat : SeatView) (stock : StockView) : Type 0 where
-  pub some : 1 ≤ workers
-  pub few : workers ≤ 16
+pub record MayLive (table : TableId) (scene : SceneValue) (seat : SeatView) (stock : StockView) : Type 0 where
   pub own : (seat.table ≡ table) × (stock.table ≡ table)
   pub first : (seat.is_first ≡ true) × (seat.out ≡ 0)
   pub fresh : seat.leaves ≡ []

@@ -11,5 +11,5 @@ mod threads;
 
 pub use opening::{Opened, open};
 pub use scene::{live, live_queue};
-pub use sf_live_compositor::{permits_for, show_play};
+pub use sf_live_compositor::{Engine, Workers, permits_for, show_play};
 pub use sf_turns::{Stock, TableName, TurnSeat, open_turns};

@@ -1,3 +1,5 @@
+//! How a live run begins: the scene's actors, its queues, arrivals and timelines under locks, and
+//! the first seats, which are the compositor's.
 ghost use Rattle.std.specs.Prelude.{◌≡◌, ◌≤◌, All, true, [], IfOk};
 ghost use Rattle.std.specs.List.{AllByRecursion};
 ghost use Rattle.sf_script_scene.specs.declared.step.ActorScript.{ActorScript as ScriptValue};

@@ -1,11 +1,13 @@
+//! Where a live run becomes a play again: the player that goes on with it once its threads are
+//! joined.
 ghost use Rattle.std.specs.Prelude.{◌≡◌, ℕ, List, Option};
 ghost use Rattle.sf_live_compositor.specs.sf_play.Players.{home_in};
 ghost use Rattle.sf_live_compositor.specs.sf_live_seats.Seats.{tells_of};
 ghost use Rattle.sf_live_compositor.specs.sf_live_seats.declared.locks.Locks.{Locks};
 ghost use Rattle.sf_live_compositor.specs.sf_live_threads.Gates.{HavePassed};
-ghost use Rattle.sf_live.specs.Resuming.{GoesFrom};
-ghost use Rattle.sf_live.specs.Rounds.{HasShown};
-ghost use Rattle.sf_live.specs.Threads.{IsTogether, RunOf};
+ghost use Rattle.sf_live.specs.inner.Resuming.{GoesFrom};
+ghost use Rattle.sf_live.specs.inner.Rounds.{HasShown};
+ghost use Rattle.sf_live.specs.inner.Threads.{IsTogether, RunOf};
 ghost use Rattle.sf_live_compositor.specs.law_played.Frames.{plan_of};
 
 use crate::threads::Joined;

@@ -1,24 +1,26 @@
+//! The end of a live run, on one thread: rounds up to the first in which nothing is done, with a
+//! gate before each step, then the replies to all steps and the records that end the run.
 ghost use Rattle.std.specs.Prelude.{◌≡◌, ◌<◌, ◌≤◌, ◌++◌, ℕ, true, All, IfOk, IsErrOf, List, OnErr, OnOk, Option, length, map};
 ghost use Rattle.sf_live_compositor.specs.sf_actor.Scripts.{picture_at};
 ghost use Rattle.sf_io.specs.Causes.{Rose};
-ghost use Rattle.sf_live.specs.Rounds.{HasShown, HasShownAll, MayWriteTurn, PassesFor, ShowsOn, all_reply_records, turn_written};
+ghost use Rattle.sf_live.specs.inner.Rounds.{HasShown, HasShownAll, MayWriteAction, PassesFor, ShowsOn, all_reply_records, action_written};
 ghost use Rattle.sf_live.specs.Runs.{WroteLive};
 ghost use Rattle.sf_live_compositor.specs.sf_play.Going.{fuel_of};
 ghost use Rattle.sf_live_compositor.specs.sf_play.Players.{home_in};
-ghost use Rattle.sf_live_compositor.specs.sf_play.Turning.{next_tried};
+ghost use Rattle.sf_live_compositor.specs.sf_play.Actions.{next_tried};
 ghost use Rattle.sf_live_compositor.specs.sf_record.declared.record.Record.TheVariants as rec;
 ghost use Rattle.sf_live_compositor.specs.law_played.Replies.{reply_shown};
 ghost use Rattle.sf_script_scene.specs.Scene.{SceneValue};
 ghost use Rattle.sf_live_compositor.specs.sf_output_screen.ScreenLists.{AreShown};
 ghost use Rattle.sf_live_compositor.specs.sf_play_write.Closings.{closing_of};
-ghost use Rattle.sf_live_compositor.specs.sf_play_write.Turns.{is_end};
+ghost use Rattle.sf_live_compositor.specs.sf_play_write.inner.Rows.{is_end};
 ghost use Rattle.sf_live_compositor.specs.sf_play_write.Writing.{CutSome, Writes, WritesPart};
 ghost use Rattle.sf_live_compositor.specs.sf_actor_steps.declared.actor.Actor.{Actor as ActorIn};
 ghost use Rattle.sf_live_compositor.specs.sf_live_threads.Gates.{HavePassed};
 
 use sf_io::{Gate, Sink};
 use sf_live_compositor::{
-    Actor, Gates, Plan, Player, Reply, RunFault, Screens, Turn, reply_record, show_vsync,
+    Action, Actor, Engine, Gates, Plan, Player, Reply, RunFault, Screens, reply_record, show_vsync,
     write_closing, write_made,
 };
 use sf_turns::TableName;
@@ -26,7 +28,7 @@ use std::alloc::Global;
 use std::sync::Wait;
 use std::thread::Threads;
 
-/// Before the step that the next turn tries, the gate is passed for its actor, once for each step.
+/// Before the step that the next action tries, the gate is passed for its actor, once for each step.
 #[tactic(auto, using(crate::proofs::GateLemmas::as_many))]
 fn pass_gate<R: Wait, G: Gate, B: TableName>(
     rt: &R,
@@ -43,44 +45,39 @@ fn pass_gate<R: Wait, G: Gate, B: TableName>(
     }
 }
 
-fn is_end(turn: &Turn) -> bool
-    ensures { result ≡ is_end turn.now }
+/// Whether nothing will be done any more.
+fn is_end(action: &Action) -> bool
+    ensures { result ≡ is_end action.now }
 {
-    match turn {
-        Turn::End => true,
+    match action {
+        Action::End => true,
         _ => false,
     }
 }
 
-/// Writes the records of a turn, if it is a vsync.
-fn write_turn<R: Threads + Sync, K: Sink, B: TableName>(
-    rt: &R,
-    alloc: Global,
-    workers: u32,
+/// Writes the records of an action, if it is a vsync.
+fn write_action<R: Threads + Sync, K: Sink, B: TableName>(
+    engine: &Engine<R>,
     sink: &mut K,
     timelines: &[u32],
     plan: &Plan,
     screens: &mut Screens,
     player: &Player<B>,
-    turn: Turn,
+    action: Action,
 ) -> Result<(), RunFault>
-    requires some { 1 ≤ workers }
-    requires few { workers ≤ 16 }
     requires timelines { All (λ timeline. (1 ≤ timeline) × (timeline ≤ 64)) timelines.now }
-    requires may { (scene : SceneValue) × MayWriteTurn scene plan.now turn player.now }
-    ensures ok { (scene : SceneValue) → MayWriteTurn scene plan.now turn player.now → AreShown (picture_at scene.pictures) screens.old → OnOk result
-        (Writes (K.taken sink.old) (K.taken sink.new) (turn_written (picture_at scene.pictures) plan.now timelines.now player.now turn)
+    requires may { (scene : SceneValue) × MayWriteAction scene plan.now action player.now }
+    ensures ok { (scene : SceneValue) → MayWriteAction scene plan.now action player.now → AreShown (picture_at scene.pictures) screens.old → OnOk result
+        (Writes (K.taken sink.old) (K.taken sink.new) (action_written (picture_at scene.pictures) plan.now timelines.now player.now action)
         × AreShown (picture_at scene.pictures) screens.new) }
-    ensures err { (scene : SceneValue) → MayWriteTurn scene plan.now turn player.now → AreShown (picture_at scene.pictures) screens.old → OnErr result
-        (WritesPart (K.taken sink.old) (K.taken sink.new) (turn_written (picture_at scene.pictures) plan.now timelines.now player.now turn)) }
+    ensures err { (scene : SceneValue) → MayWriteAction scene plan.now action player.now → AreShown (picture_at scene.pictures) screens.old → OnErr result
+        (WritesPart (K.taken sink.old) (K.taken sink.new) (action_written (picture_at scene.pictures) plan.now timelines.now player.now action)) }
     ensures later { K.faults sink.old ≤ K.faults sink.new }
     ensures failed { IsErrOf result RunFault.WriteFault → Rose (K.faults sink.old) (K.faults sink.new) }
 {
-    match turn {
-        Turn::Vsync(report) => show_vsync(
-            rt,
-            alloc,
-            workers,
+    match action {
+        Action::Vsync(report) => show_vsync(
+            engine,
             sink,
             timelines,
             plan,
@@ -88,16 +85,14 @@ fn write_turn<R: Threads + Sync, K: Sink, B: TableName>(
             player.handler(),
             report.into_report(),
         ),
-        Turn::Step(_) | Turn::Idle | Turn::End => Ok(()),
+        Action::Step(_) | Action::Idle | Action::End => Ok(()),
     }
 }
 
-/// Does the next turn of a run, for which its gate is passed before, and writes the records of its
+/// Does the next action of a run, for which its gate is passed before, and writes the records of its
 /// vsync; whether it was not the end.
-fn show_turn<R: Threads + Wait + Sync, K: Sink, G: Gate, B: TableName>(
-    rt: &R,
-    alloc: Global,
-    workers: u32,
+fn show_action<R: Threads + Wait + Sync, K: Sink, G: Gate, B: TableName>(
+    engine: &Engine<R>,
     sink: &mut K,
     timelines: &[u32],
     plan: &Plan,
@@ -106,8 +101,6 @@ fn show_turn<R: Threads + Wait + Sync, K: Sink, G: Gate, B: TableName>(
     gates: &mut [Gates],
     player: &mut Player<B>,
 ) -> Result<bool, RunFault>
-    requires some { 1 ≤ workers }
-    requires few { workers ≤ 16 }
     requires gates { HavePassed player.old.play.actor_set.actors gates.old }
     requires shown { (scene : SceneValue) × (start : Option (List ℕ)) × HasShown B.table scene plan.now timelines.now start (K.taken sink.old) screens.old player.old }
     ensures on { (scene : SceneValue) (start : Option (List ℕ)) → HasShown B.table scene plan.now timelines.now start (K.taken sink.old) screens.old player.old
@@ -120,15 +113,13 @@ fn show_turn<R: Threads + Wait + Sync, K: Sink, G: Gate, B: TableName>(
     ensures later { K.faults sink.old ≤ K.faults sink.new }
     ensures failed { IsErrOf result RunFault.WriteFault → Rose (K.faults sink.old) (K.faults sink.new) }
 {
-    pass_gate(rt, gate, gates, player);
-    let turn = match player.next() {
-        Ok(turn) => turn,
+    pass_gate(engine.rt, gate, gates, player);
+    let action = match player.next() {
+        Ok(action) => action,
         Err(_) => return Err(RunFault::NoMemory),
     };
-    let goes_on = !is_end(&turn);
-    match write_turn(
-        rt, alloc, workers, sink, timelines, plan, screens, player, turn,
-    ) {
+    let goes_on = !is_end(&action);
+    match write_action(engine, sink, timelines, plan, screens, player, action) {
         Ok(()) => Ok(goes_on),
         Err(fault) => Err(fault),
     }
@@ -136,9 +127,7 @@ fn show_turn<R: Threads + Wait + Sync, K: Sink, G: Gate, B: TableName>(
 
 /// Does the rounds of a run up to its end, and writes their vsyncs.
 fn show_rounds<R: Threads + Wait + Sync, K: Sink, G: Gate, B: TableName>(
-    rt: &R,
-    alloc: Global,
-    workers: u32,
+    engine: &Engine<R>,
     sink: &mut K,
     timelines: &[u32],
     plan: &Plan,
@@ -147,8 +136,6 @@ fn show_rounds<R: Threads + Wait + Sync, K: Sink, G: Gate, B: TableName>(
     gates: &mut [Gates],
     player: &mut Player<B>,
 ) -> Result<(), RunFault>
-    requires some { 1 ≤ workers }
-    requires few { workers ≤ 16 }
     requires gates { HavePassed player.old.play.actor_set.actors gates.old }
     requires shown { (scene : SceneValue) × (start : Option (List ℕ)) × HasShown B.table scene plan.now timelines.now start (K.taken sink.old) screens.old player.old }
     ensures ok { (scene : SceneValue) (start : Option (List ℕ)) → HasShown B.table scene plan.now timelines.now start (K.taken sink.old) screens.old player.old
@@ -159,10 +146,8 @@ fn show_rounds<R: Threads + Wait + Sync, K: Sink, G: Gate, B: TableName>(
     ensures later { K.faults sink.old ≤ K.faults sink.new }
     ensures failed { IsErrOf result RunFault.WriteFault → Rose (K.faults sink.old) (K.faults sink.new) }
 {
-    'turns: loop {
-        match show_turn(
-            rt, alloc, workers, sink, timelines, plan, screens, gate, gates, player,
-        ) {
+    'actions: loop {
+        match show_action(engine, sink, timelines, plan, screens, gate, gates, player) {
             Ok(true) => {}
             Ok(false) => return Ok(()),
             Err(fault) => return Err(fault),
@@ -230,9 +215,7 @@ fn write_rest<K: Sink, B: TableName>(
 /// actor and step, and the records that end the run. After a fault of the sink, or want of memory, the
 /// sink has a prefix of some records.
 pub(crate) fn write_rounds<R: Threads + Wait + Sync, K: Sink, G: Gate, B: TableName>(
-    rt: &R,
-    alloc: Global,
-    workers: u32,
+    engine: &Engine<R>,
     sink: &mut K,
     timelines: &[u32],
     plan: &Plan,
@@ -241,8 +224,6 @@ pub(crate) fn write_rounds<R: Threads + Wait + Sync, K: Sink, G: Gate, B: TableN
     gates: &mut [Gates],
     player: &mut Player<B>,
 ) -> Result<(), RunFault>
-    requires some { 1 ≤ workers }
-    requires few { workers ≤ 16 }
     requires gates { HavePassed player.old.play.actor_set.actors gates.old }
     requires shown { (scene : SceneValue) × (start : Option (List ℕ)) × HasShown B.table scene plan.now timelines.now start (K.taken sink.old) screens.old player.old }
     ensures ok { (scene : SceneValue) (start : Option (List ℕ)) → HasShown B.table scene plan.now timelines.now start (K.taken sink.old) screens.old player.old
@@ -252,11 +233,9 @@ pub(crate) fn write_rounds<R: Threads + Wait + Sync, K: Sink, G: Gate, B: TableN
     ensures later { K.faults sink.old ≤ K.faults sink.new }
     ensures failed { IsErrOf result RunFault.WriteFault → Rose (K.faults sink.old) (K.faults sink.new) }
 {
-    match show_rounds(
-        rt, alloc, workers, sink, timelines, plan, screens, gate, gates, player,
-    ) {
+    match show_rounds(engine, sink, timelines, plan, screens, gate, gates, player) {
         Ok(()) => {}
         Err(fault) => return Err(fault),
     }
-    write_rest(alloc, sink, player)
+    write_rest(engine.alloc, sink, player)
 }

@@ -1,9 +1,11 @@
+//! The middle of a live run: each actor in a thread of its own, the compositor beside them, up to
+//! where no thread can go on.
 ghost use Rattle.std.specs.Prelude.{◌≡◌, Some, IfErr, IfOk};
 ghost use Rattle.sf_live_compositor.specs.sf_record.declared.encode.RunFault.TheVariants.{WriteFault};
 ghost use Rattle.sf_script_scene.specs.Scene.{SceneValue};
 ghost use Rattle.sf_live_compositor.specs.sf_live_threads.declared.run.Stopped.TheVariants as stopped;
 ghost use Rattle.sf_live.specs.Openings.{IsOpen, MayStart};
-ghost use Rattle.sf_live.specs.Running.{CameTogether, Starts, WasCut};
+ghost use Rattle.sf_live.specs.inner.Running.{CameTogether, Starts, WasCut};
 
 use crate::opening::Opened;
 use crate::threads::{Joined, bring_together};

@@ -1,3 +1,5 @@
+//! Where the threads of a live run are joined: the locks are closed, and the actors come together
+//! over a desk of one thread.
 ghost use Rattle.std.specs.Prelude.{◌≡◌, ℕ, All, map, IfOk};
 ghost use Rattle.sf_calls.specs.Histories.{IsLegal};
 ghost use Rattle.sf_live_compositor.specs.sf_surface.Histories.{Answers};
@@ -6,7 +8,7 @@ ghost use Rattle.sf_live_compositor.specs.sf_actor.Desks.{KnowsAll, mark_among};
 ghost use Rattle.sf_live_compositor.specs.sf_actor.Plain.{home_of, view_of};
 ghost use Rattle.sf_live_compositor.specs.sf_live_seats.First.{HasAll, IsFirst};
 ghost use Rattle.sf_live_compositor.specs.sf_live_threads.Meeting.{as_returned};
-ghost use Rattle.sf_live.specs.Threads.{HasRun, IsTogether, RunOf, returned_actor, returned_gates};
+ghost use Rattle.sf_live.specs.inner.Threads.{HasRun, IsTogether, RunOf, returned_actor, returned_gates};
 
 use sf_base::{Items, NoMemory};
 use sf_calls::Object;

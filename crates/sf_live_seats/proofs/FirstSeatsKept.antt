@@ -12,7 +12,7 @@ use Rattle.sf_live_seats.specs.declared.first.FirstSeats.{FirstSeats}
 use Rattle.sf_live_seats.specs.declared.locks.Locks.{Locks}
 use Rattle.sf_live_seats.specs.declared.seats.Seats.{Seats}
 use Rattle.sf_live_seats.specs.Arriving.{ArrivalsPass}
-use Rattle.sf_live_seats.specs.Eyes.{SeatGoesOn}
+use Rattle.sf_live_seats.specs.Observers.{SeatGoesOn}
 use Rattle.sf_live_seats.specs.First.{IsFirst, Leads, TookPass, gave_of}
 use Rattle.sf_live_seats.specs.Moves.{ChangesArrivals, ChangesPasses, MovesPass, Stays}
 use Rattle.sf_live_seats.specs.Seats.{AreSeats, QueuePass}

@@ -15,7 +15,7 @@ use Rattle.sf_actor.specs.sf_surface.Tokens.{ReadLeaseOf}
 use Rattle.sf_intake.specs.sf_token.Pending.{Arrival}
 use Rattle.sf_turns.specs.Views.{SeatView}
 use Rattle.sf_intake.specs.sf_txn.declared.lease.Lease.{Ghosts}
-use Rattle.sf_live_seats.specs.Eyes.{SeatGoesOn}
+use Rattle.sf_live_seats.specs.Observers.{SeatGoesOn}
 
 -- a lease of a buffer with a turn of this number
 lease_at : TableId → ℕ → ℕ → ReadLeaseOf

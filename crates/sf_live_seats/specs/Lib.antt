@@ -1,7 +1,7 @@
 pub mod Arriving
 pub mod Calls
 pub mod Closing
-pub mod Eyes
+pub mod Observers
 pub mod First
 pub mod Inboxes
 pub mod Moves

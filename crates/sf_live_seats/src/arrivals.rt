@@ -1,7 +1,9 @@
-use sf_actor::sf_surface::ReadLease;
+//! The arrivals of transactions as an object under a lock whose calls have stamps: what actors
+//! send, and the compositor takes.
+use sf_actor::ReadLease;
 use sf_calls::{Object, Outcome};
 use sf_calls_stamped::Stamped;
-use sf_intake::sf_token::{Arrivals, ArriveCall, ArriveReply};
+use sf_intake::{Arrivals, ArriveCall, ArriveReply};
 use sf_turns::TableName;
 use std::alloc::Global;
 use std::marker::Brand;

@@ -1,3 +1,5 @@
+//! What a caller has where transactions arrive without a lock: a sender, the inbox of the first
+//! caller, or nothing where there is no intake.
 use crate::inbox::Inbox;
 use crate::outbox::Outbox;
 use sf_turns::TableName;

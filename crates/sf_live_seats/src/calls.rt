@@ -1,3 +1,5 @@
+//! A call of a step through a pass at a queue's lock or at the arrivals': it is stamped behind the
+//! caller's last call, so that a caller's calls stay in order.
 ghost use Rattle.std.specs.Prelude.{◌≡◌, ◌≤◌, Some, IfErr, IfOk, map};
 ghost use Rattle.sf_calls.specs.Calling.{IfFaultNoMemory, IfFaultNotYet};
 ghost use Rattle.sf_calls.specs.Histories.{Begins, calls_by};
@@ -9,11 +11,10 @@ use crate::arrivals::StampedArrivals;
 use crate::clock::Clock;
 use crate::locks::QueueLock;
 use crate::queue_seat::QueueSeat;
-use sf_actor::sf_surface::{QCall, QReply, ReadLease};
+use sf_actor::{QCall, QReply, ReadLease};
 use sf_base::NoMemory;
 use sf_calls::{CallFault, CallLock, Pass};
-use sf_intake::sf_token::{ArriveCall, ArriveReply};
-use sf_intake::sf_txn::Transaction;
+use sf_intake::{ArriveCall, ArriveReply, Transaction};
 use sf_turns::TableName;
 use std::sync::Wait;
 

@@ -1,3 +1,5 @@
+//! The first caller's seats, which the compositor has: seats for the actors are split off them
+//! before threads start, and taken in again once these are joined.
 ghost use Rattle.std.specs.Prelude.{◌≡◌, length, map, vec_len, IfOk, OnOk};
 ghost use Rattle.std.specs.List.{AllByRecursion, AllZip};
 ghost use Rattle.sf_calls.specs.Passes.{given, giving};

@@ -1,3 +1,5 @@
+//! The first caller's side of an intake without a lock: what senders sent is taken out, and put
+//! among the arrivals in each sender's name.
 ghost use Rattle.std.specs.Prelude.{◌≡◌, ◌++◌, ◌<◌, [], true, false, None, Some, length, Contains, IfOk, IfErr, OnOk, option_to_list};
 ghost use Rattle.std.specs.List.{AllByRecursion, AllZip, position};
 ghost use Rattle.std.specs.Vec.Iter.{into_iter_items};
@@ -13,12 +15,10 @@ use crate::clock::Clock;
 use crate::locks::Locks;
 use crate::seats::Seats;
 use crate::shown::Shown;
-use sf_actor::sf_surface::ReadLease;
+use sf_actor::ReadLease;
 use sf_base::{ActorId, NoMemory};
 use sf_calls::{CallLock, Pass};
-use sf_intake::sf_token::Arrived;
-use sf_intake::sf_txn::Transaction;
-use sf_intake::{Intake, Sender, Taker};
+use sf_intake::{Arrived, Intake, Sender, Taker, Transaction};
 use sf_turns::TableName;
 use std::alloc::Global;
 use std::marker::Brand;

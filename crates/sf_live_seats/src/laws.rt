@@ -1,8 +1,9 @@
+//! A law about the first caller's seats, called for its clauses alone.
 ghost use Rattle.std.specs.Prelude.{◌≡◌};
 ghost use Rattle.sf_live_seats.specs.declared.first.FirstSeats.{FirstSeats};
 ghost use Rattle.sf_live_seats.specs.declared.locks.Locks.{Locks};
 ghost use Rattle.sf_live_seats.specs.declared.seats.Seats.{Seats};
-ghost use Rattle.sf_live_seats.specs.Eyes.{SeatGoesOn};
+ghost use Rattle.sf_live_seats.specs.Observers.{SeatGoesOn};
 ghost use Rattle.sf_live_seats.specs.First.{IsFirst};
 ghost use Rattle.sf_live_seats.specs.Moves.{ChangesArrivals, ChangesPasses, Stays};
 ghost use Rattle.sf_live_seats.specs.Seats.{AreSeats};

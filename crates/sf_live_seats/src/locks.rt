@@ -1,3 +1,5 @@
+//! What the threads of a run share by reference: each queue under a lock, the arrivals, the
+//! timelines. A run opens them with the first seats, and closes them into a desk of one thread.
 ghost use Rattle.std.specs.Prelude.{◌≡◌, ℕ, true, [], ◌∷◌, Contains, IfOk};
 ghost use Rattle.std.specs.List.{AllByRecursion, AllZip, list_any, position};
 ghost use Rattle.sf_times.specs.Seats.{IsAlone};
@@ -17,13 +19,11 @@ use crate::inbox::Inbox;
 use crate::queue_seat::QueueSeat;
 use crate::seats::{Seats, SeatsParts};
 use crate::shown::Shown;
-use sf_actor::PlainDesk;
-use sf_actor::sf_surface::{QueueObject, ReadLease};
+use sf_actor::{PlainDesk, QueueObject, ReadLease};
 use sf_base::{NoMemory, QueueId};
 use sf_calls::CallLock;
 use sf_calls_stamped::Stamped;
-use sf_intake::Intake;
-use sf_intake::sf_token::Arrivals;
+use sf_intake::{Arrivals, Intake};
 use sf_times::{TimeSeat, Timelines};
 use sf_turns::sf_picture::Painted;
 use sf_turns::{TableName, TurnSeat};

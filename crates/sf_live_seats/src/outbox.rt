@@ -1,8 +1,8 @@
+//! An actor's side of an intake without a lock: its sender, with what it may send.
 use crate::clock::Clock;
-use sf_actor::sf_surface::ReadLease;
+use sf_actor::ReadLease;
 use sf_base::NoMemory;
-use sf_intake::sf_txn::Transaction;
-use sf_intake::{Intake, Sender};
+use sf_intake::{Intake, Sender, Transaction};
 use sf_turns::TableName;
 use std::marker::Brand;
 use std::sync::Wait;

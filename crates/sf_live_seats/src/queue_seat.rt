@@ -1,3 +1,5 @@
+//! A caller's pass at the lock of one queue, in a type of its own, so that its drop is proved here
+//! alone.
 ghost use Rattle.std.specs.Prelude.{ℕ, IfOk};
 ghost use Rattle.sf_calls.specs.Calling.{IfFaultNoMemory, IfFaultNotYet, Made, Waited};
 ghost use Rattle.sf_calls.specs.Passes.{Fits, HasMark};
@@ -8,7 +10,7 @@ ghost use Rattle.sf_actor.specs.sf_surface.Histories.{Answers};
 ghost use Rattle.sf_actor.specs.sf_surface.Marks.{PermitFits, SpareFits};
 
 use crate::locks::QueueLock;
-use sf_actor::sf_surface::{QCall, QReply, QueueObject};
+use sf_actor::{QCall, QReply, QueueObject};
 use sf_calls::{CallFault, Pass};
 use sf_calls_stamped::Stamped;
 use sf_turns::TableName;

@@ -1,3 +1,5 @@
+//! All that one caller brings to what is shared: a pass for each queue's lock, its seats at
+//! timelines and turns, and how it sends transactions.
 use crate::arrivals::StampedArrivals;
 use crate::at_intake::AtIntake;
 use crate::calls::{call_one, send_one};
@@ -5,10 +7,10 @@ use crate::clock::Clock;
 use crate::locks::Locks;
 use crate::queue_seat::QueueSeat;
 use crate::shown::Shown;
-use sf_actor::sf_surface::{QCall, QReply, ReadLease};
+use sf_actor::{QCall, QReply, ReadLease};
 use sf_base::{NoMemory, QueueId};
 use sf_calls::{CallFault, Pass};
-use sf_intake::sf_txn::Transaction;
+use sf_intake::Transaction;
 use sf_times::TimeSeat;
 use sf_turns::sf_picture::Painted;
 use sf_turns::{TableName, TurnSeat};

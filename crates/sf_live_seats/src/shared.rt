@@ -1,10 +1,11 @@
+//! The desk of an actor in a thread: each call of its steps goes over its own seats to a lock that
+//! all share.
 use crate::locks::Locks;
 use crate::seats::Seats;
-use sf_actor::sf_surface::{DrawFault, Ending, Owing, QCall, QReply, ReadLease, WriteLease};
-use sf_actor::{Desk, TokensOf};
+use sf_actor::{Desk, DrawFault, Ending, Owing, QCall, QReply, ReadLease, TokensOf, WriteLease};
 use sf_base::{ActorId, NoMemory, QueueId, Seen, TimelineId};
 use sf_calls::CallFault;
-use sf_intake::sf_txn::Transaction;
+use sf_intake::Transaction;
 use sf_turns::TableName;
 use sf_turns::sf_picture::Picture;
 use std::alloc::Global;

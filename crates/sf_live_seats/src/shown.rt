@@ -1,3 +1,4 @@
+//! What a caller's pass at the arrivals showed, kept for proofs alone: it takes no room.
 use crate::arrivals::StampedArrivals;
 use sf_calls::Pass;
 use sf_turns::TableName;

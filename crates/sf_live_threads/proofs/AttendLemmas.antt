@@ -14,7 +14,7 @@ use Rattle.sf_live_threads.specs.declared.task.Task.{Task}
 use Rattle.sf_live_threads.specs.declared.task.Task.TheVariants.{Away, Here}
 use Rattle.sf_live_threads.specs.Backs.{AllCame}
 use Rattle.sf_live_threads.specs.SeatedActors.{Came}
-use Rattle.sf_live_threads.specs.Tasks.{AreTasks, GivesWhole, IsFitTask, IsTask, Stays}
+use Rattle.sf_live_threads.specs.inner.Tasks.{AreTasks, GivesWhole, IsFitTask, IsTask, Stays}
 use Rattle.sf_live_threads.specs.declared.run.Stopped.{Stopped}
 use Rattle.sf_live_threads.specs.declared.run.Stopped.TheVariants as stopped
 use Rattle.sf_live_threads.specs.Visits.{Attends, HasLeft, HasLeftOrIs, LeavesGiven}

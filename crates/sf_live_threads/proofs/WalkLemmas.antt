@@ -10,7 +10,7 @@ use Rattle.sf_actor_steps.specs.sf_actor.declared.tried.Stepped.{Stepped}
 use Rattle.sf_actor_steps.specs.sf_actor.declared.tried.Stepped.TheVariants as stepped
 use Rattle.sf_actor_steps.specs.sf_actor.Desks.{DeskHome, DeskView}
 use Rattle.sf_actor_steps.specs.sf_actor.Scripts.{picture_at}
-use Rattle.sf_actor_steps.specs.sf_actor.Tales.{step_done}
+use Rattle.sf_actor_steps.specs.sf_actor.ScriptTraces.{step_done}
 use Rattle.sf_actor_steps.specs.sf_actor.Tries.{ActorOf, Keeps, Tries}
 use Rattle.sf_actor_steps.specs.Actors.{IsActor, Steps}
 use Rattle.sf_actor_steps.specs.Playable.{MayPlay}
@@ -22,7 +22,7 @@ use Rattle.sf_live_seats.specs.Shared.{IsHome, SharedOf}
 use Rattle.sf_live_seats.specs.Shared as shared
 use Rattle.sf_live_threads.specs.declared.seated_actor.SeatedActor.{SeatedActor}
 use Rattle.sf_live_threads.specs.declared.gates.Gates.{Gates}
-use Rattle.sf_live_threads.specs.SeatedActors.{MayTryNext, Came, Turns, Walks}
+use Rattle.sf_live_threads.specs.SeatedActors.{MayTryNext, Came, TriesNext, Walks}
 use Rattle.sf_live_threads.specs.Gates.{HasPassed, IsReady}
 use Rattle.sf_live_threads.specs.Walks.{Begin, More}
 
@@ -46,30 +46,30 @@ module _ {B : Type 0} (table : TableId) (locks : Locks B) (pictures : List Pictu
     walks = λ of sound. record { new = of; sound = sound; walk = Begin };
   }
 
-  pub came_more : (sent was now : SeatedActor B) (stepped : Stepped) → Came table locks pictures sent was → Turns table locks pictures was now stepped → Came table locks pictures sent now
-  came_more sent was now stepped came turns = record {
-    may_try_next = turns.may_try_next;
-    script = turns.script ∙ came.script;
-    caller = turns.caller ∙ came.caller;
+  pub came_more : (sent was now : SeatedActor B) (stepped : Stepped) → Came table locks pictures sent was → TriesNext table locks pictures was now stepped → Came table locks pictures sent now
+  came_more sent was now stepped came did = record {
+    may_try_next = did.may_try_next;
+    script = did.script ∙ came.script;
+    caller = did.caller ∙ came.caller;
     walks = λ of sound. further of (came.walks of sound);
   }
     where
       further : (of : ActorOf B) → Walks table locks pictures sent of was → Walks table locks pictures sent of now
       further of w =
-          let s = turns.steps w.new w.sound.is w.sound.keeps in record {
+          let s = did.steps w.new w.sound.is w.sound.keeps in record {
             new = s.new;
             sound = record {
               is = s.is;
-              keeps = subst (λ (h : DeskHome). Keeps (picture_at pictures) h s.new (view_of now.seats)) (sym (same_home locks was.seats now.seats turns.caller)) s.keeps;
+              keeps = subst (λ (h : DeskHome). Keeps (picture_at pictures) h s.new (view_of now.seats)) (sym (same_home locks was.seats now.seats did.caller)) s.keeps;
             };
-            walk = More w.walk record { own = turns.may_try_next.own; caller = turns.caller; stepped = stepped; steps = s; is = refl };
+            walk = More w.walk record { own = did.may_try_next.own; caller = did.caller; stepped = stepped; steps = s; is = refl };
           }
 
 module _ {B : Type 0} (table : TableId) (locks : Locks B) (pictures : List Picture) where
-  pub came_ok : {E : Type 0} (sent was now : SeatedActor B) (tried : Result Stepped E) (stepped : Stepped) → tried ≡ Ok stepped → IfOk tried (Turns table locks pictures was now)
+  pub came_ok : {E : Type 0} (sent was now : SeatedActor B) (tried : Result Stepped E) (stepped : Stepped) → tried ≡ Ok stepped → IfOk tried (TriesNext table locks pictures was now)
       → Came table locks pictures sent was → Came table locks pictures sent now
-  came_ok {E} sent was now tried stepped is turns came =
-      came_more table locks pictures sent was now stepped came (subst (λ (r : Result Stepped E). IfOk r (Turns table locks pictures was now)) is turns)
+  came_ok {E} sent was now tried stepped is did came =
+      came_more table locks pictures sent was now stepped came (subst (λ (r : Result Stepped E). IfOk r (TriesNext table locks pictures was now)) is did)
 
 -- what a try leaves of an actor: no more steps than its script has, and as many replies as before or one more
 module _ {B : Type 0} where
@@ -110,14 +110,14 @@ module _ {B : Type 0} where
       }
 
 module _ {B : Type 0} (table : TableId) (locks : Locks B) (pictures : List Picture) where
-  -- a try over a desk of a seated actor's seats turns the actor
-  pub turned : (was now : SeatedActor B) (others : Locks B) (stepped : Stepped) → MayTryNext table locks pictures was
+  -- a try over a desk of a seated actor's seats is one of the seated actor
+  pub tries_next : (was now : SeatedActor B) (others : Locks B) (stepped : Stepped) → MayTryNext table locks pictures was
       → AreSeats table locks now.seats → home_of others now.seats ≡ home_of locks was.seats
       → now.actor.script ≡ was.actor.script → IsReady was.actor now.gates
       → ((of : ActorOf B) → IsActor table was.actor of → Keeps (picture_at pictures) (home_of locks was.seats) of (view_of was.seats)
       → Steps table (picture_at pictures) (home_of locks was.seats) was.actor.bindings of (view_of was.seats) now.actor (view_of now.seats) stepped)
-      → Turns table locks pictures was now stepped
-  turned was now others stepped may_try_next own home script ready steps =
+      → TriesNext table locks pictures was now stepped
+  tries_next was now others stepped may_try_next own home script ready steps =
       let caller : now.seats.by ≡ was.seats.by = same_caller locks others was.seats now.seats home in
       let homes : home_of locks was.seats ≡ home_of locks now.seats = sym (same_home locks was.seats now.seats caller) in
       let k = may_try_next.kept in
@@ -137,16 +137,16 @@ module _ {B : Type 0} (table : TableId) (locks : Locks B) (pictures : List Pictu
       }
 
   -- the same, of what a try over such a desk answered
-  pub turned_ok : {E : Type 0} (was now : SeatedActor B) (old new : SharedOf B) (tried : Result Stepped E) → MayTryNext table locks pictures was
+  pub tried_ok : {E : Type 0} (was now : SeatedActor B) (old new : SharedOf B) (tried : Result Stepped E) → MayTryNext table locks pictures was
       → old ≡ record { locks = locks; seats = was.seats } → IsHome locks (shared.home_of old) → shared.home_of new ≡ shared.home_of old → now.seats ≡ new.seats
       → ((others : Locks B) → IsHome others (shared.home_of new) → AreSeats table others now.seats) → now.actor.script ≡ was.actor.script → IsReady was.actor now.gates
       → ((of : ActorOf B) → IsActor table was.actor of → Keeps (picture_at pictures) (shared.home_of old) of (shared.view_of old)
       → IfOk tried (Steps table (picture_at pictures) (shared.home_of old) was.actor.bindings of (shared.view_of old) now.actor (shared.view_of new)))
-      → IfOk tried (Turns table locks pictures was now)
-  turned_ok was now old new (Err e) may_try_next is home same seats own script ready steps = tt
-  turned_ok was now old new (Ok stepped) may_try_next is home same seats own script ready steps =
+      → IfOk tried (TriesNext table locks pictures was now)
+  tried_ok was now old new (Err e) may_try_next is home same seats own script ready steps = tt
+  tried_ok was now old new (Ok stepped) may_try_next is home same seats own script ready steps =
       let homes : home_of locks was.seats ≡ shared.home_of old = ap (λ (d : SharedOf B). shared.home_of d) (sym is) in
-      turned was now new.locks stepped may_try_next (own locks (subst (IsHome locks) (sym same) home))
+      tries_next was now new.locks stepped may_try_next (own locks (subst (IsHome locks) (sym same) home))
       (ap (λ (s : Seats B). home_of new.locks s) seats ∙ (same ∙ sym homes)) script ready
       (λ of isa keeps. back of (steps of isa (forth of keeps)))
     where

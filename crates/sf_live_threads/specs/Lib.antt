@@ -2,11 +2,11 @@ pub mod Backs
 pub mod Seating
 pub mod SeatedActors
 pub mod Gates
-pub mod Tasks
 pub mod Meeting
 pub mod Returns
 pub mod Visits
 pub mod Walks
+pub mod inner
 pub use Rattle.sf_actor_steps.specs.sf_actor
 pub use Rattle.sf_actor_steps.specs as sf_actor_steps
 pub use Rattle.sf_actor_steps.specs.sf_calls

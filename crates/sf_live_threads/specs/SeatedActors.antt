@@ -31,7 +31,7 @@ module _ {B : Type 0} (table : TableId) (locks : Locks B) (pictures : List Pictu
     pub gates : HasPassed seated_actor.actor seated_actor.gates
 
   -- one try of a seated actor's next step
-  pub record Turns (was now : SeatedActor B) (stepped : Stepped) : Type 0 where
+  pub record TriesNext (was now : SeatedActor B) (stepped : Stepped) : Type 0 where
     pub may_try_next : MayTryNext now
     pub script : now.actor.script ≡ was.actor.script
     pub caller : now.seats.by ≡ was.seats.by

@@ -1,3 +1,5 @@
+//! After the threads are joined: the first seats take in the seats of all actors, who then stand by
+//! rising number.
 ghost use Rattle.std.specs.Prelude.{◌≡◌, ◌+◌, ◌≤◌, length, map, IfOk};
 ghost use Rattle.std.specs.List.{AllByRecursion};
 ghost use Rattle.sf_live_seats.specs.First.{IsFirst, gave_of};

@@ -1,3 +1,5 @@
+//! For how many steps of an actor its gate was passed, so that it is passed once for each step,
+//! however often that is tried.
 ghost use Rattle.std.specs.Prelude.{◌≡◌, ◌+◌, ◌≤◌, length};
 ghost use Rattle.sf_live_threads.specs.Gates.{HasPassed, IsReady};
 

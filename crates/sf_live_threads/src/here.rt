@@ -1,13 +1,15 @@
+//! Actors for which no thread could be started: they stay with the starter, which tries their steps
+//! between its visits.
 ghost use Rattle.std.specs.Prelude.{IfSome};
 ghost use Rattle.std.specs.List.{AllByRecursion, AllZip};
 ghost use Rattle.sf_live_threads.specs.declared.seated_actor.SeatedActor.{SeatedActor as SeatedActorIn};
 ghost use Rattle.sf_live_threads.specs.Backs.{IfWhole, IsFit};
-ghost use Rattle.sf_live_threads.specs.Tasks.{IsFitTask, Stays};
+ghost use Rattle.sf_live_threads.specs.inner.Tasks.{IsFitTask, Stays};
 
 use crate::seated_actor::Back;
 use crate::task::Task;
-use crate::turn::turn;
-use sf_actor_steps::sf_actor::Stepped;
+use crate::try_next::try_next;
+use sf_actor_steps::Stepped;
 use sf_io::Gate;
 use sf_live_seats::Locks;
 use sf_live_watch::Watch;
@@ -33,7 +35,7 @@ fn try_back<R: Wait, G: Gate, B: TableName>(
         Back::Spent(seated_actor) => return Back::Spent(seated_actor),
         Back::Whole(seated_actor) => seated_actor,
     };
-    let (seated_actor, stepped, noted) = turn(rt, locks, pictures, gate, seated_actor);
+    let (seated_actor, stepped, noted) = try_next(rt, locks, pictures, gate, seated_actor);
     match stepped {
         Ok(Stepped::Done) => {
             watch.tell_done(rt, noted.effect());

@@ -1,3 +1,4 @@
+//! A law about an actor's walk over its seats, called for its clauses alone.
 ghost use Rattle.std.specs.Prelude.{◌≡◌, ◌++◌, ℕ, List};
 ghost use Rattle.sf_picture.specs.declared.picture.Picture.{Picture};
 ghost use Rattle.sf_live_seats.specs.declared.locks.Locks.{Locks};

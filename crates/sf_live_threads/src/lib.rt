@@ -14,7 +14,7 @@ mod seated_actor;
 mod seating;
 mod task;
 mod threads;
-mod turn;
+mod try_next;
 mod visit;
 mod work;
 
@@ -23,11 +23,11 @@ pub use gates::Gates;
 pub use laws::seats_do_what_steps_do;
 pub use run::{Stopped, run_actors};
 pub use seated_actor::SeatedActor;
-pub use sf_actor_steps;
-pub use sf_actor_steps::{sf_actor, sf_calls, sf_surface, sf_txn};
-pub use sf_io;
-pub use sf_live_seats;
-pub use sf_live_seats::{sf_commit, sf_ready};
-pub use sf_picture;
-pub use sf_turns;
+pub use sf_actor_steps::{
+    Actor, Desk, Lease, PlainDesk, QCall, QueueObject, ReadLease, Reply, settle,
+};
+pub use sf_io::Sink;
+pub use sf_live_seats::{FirstSeats, Handler, Locks, Release, Seats, Vsync};
+pub use sf_picture::Painted;
+pub use sf_turns::TableName;
 pub use visit::{Ended, Look, Visit};

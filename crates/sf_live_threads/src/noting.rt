@@ -1,6 +1,6 @@
-use sf_actor_steps::sf_actor::{Desk, Tokens};
-use sf_actor_steps::sf_calls::CallFault;
-use sf_actor_steps::sf_surface::DrawFault;
+//! A desk that notes what a step does over it: a thread asks it afterwards whom to wake, or what to
+//! wait for.
+use sf_actor_steps::{CallFault, Desk, DrawFault, Tokens};
 use sf_base::{ActorId, NoMemory, QueueId, Seen, TimelineId};
 use sf_live_watch::{Awaited, Effect};
 use sf_picture::Picture;

@@ -1,3 +1,5 @@
+//! A run in threads, from the first to the last: seats are given out, threads are started, visits
+//! are made while they run, all are joined, and their seats are taken in. `sf_live` calls it.
 ghost use Rattle.std.specs.Prelude.{◌≡◌, ◌+◌, ◌≤◌, [], ◌∷◌, ◌⊎◌, length, map, Err, IfErr, IfOk, IsOk};
 ghost use Rattle.std.specs.List.{AllByRecursion, AllZip};
 ghost use Rattle.std.specs.List.Sorted.{IsStrictlyIncreasing};
@@ -7,7 +9,7 @@ ghost use Rattle.sf_live_seats.specs.Seats.{MaySend};
 ghost use Rattle.sf_live_threads.specs.Seating.{GivesEach, IsNewcomer, number_of};
 ghost use Rattle.sf_live_threads.specs.SeatedActors.{MayTryNext};
 ghost use Rattle.sf_live_threads.specs.Backs.{AllCame};
-ghost use Rattle.sf_live_threads.specs.Tasks.{AreTasks, GivesWhole, IsFitTask, Stays};
+ghost use Rattle.sf_live_threads.specs.inner.Tasks.{AreTasks, GivesWhole, IsFitTask, Stays};
 ghost use Rattle.sf_live_threads.specs.Meeting.{MeetsReunited, as_returned, seats_of};
 ghost use Rattle.sf_live_threads.specs.Returns.{Returns};
 ghost use Rattle.sf_live_threads.specs.Visits.{Attends, HasLeft, HasLeftOrIs};

@@ -1,3 +1,5 @@
+//! An actor together with its seats at what all share: what goes into a thread and comes back from
+//! it.
 use crate::gates::Gates;
 use sf_actor_steps::Actor;
 use sf_live_seats::Seats;

@@ -1,3 +1,5 @@
+//! What a thread is started with and what it brings back, or the actor that stays where no thread
+//! could be started.
 use crate::seated_actor::{Back, SeatedActor};
 use sf_live_seats::Locks;
 use sf_picture::Picture;

@@ -1,8 +1,10 @@
+//! Starts a thread for each seated actor, and joins them. An actor whose thread can't be started
+//! stays here.
 ghost use Rattle.std.specs.Prelude.{◌<◌, ◌≤◌, length, IfSome};
 ghost use Rattle.std.specs.List.{AllByRecursion, AllZip};
 ghost use Rattle.sf_live_threads.specs.Backs.{IfWhole};
 ghost use Rattle.sf_live_threads.specs.SeatedActors.{MayTryNext};
-ghost use Rattle.sf_live_threads.specs.Tasks.{AreTasks, Gives, GivesWhole, IsTask};
+ghost use Rattle.sf_live_threads.specs.inner.Tasks.{AreTasks, Gives, GivesWhole, IsTask};
 
 use crate::seated_actor::{Back, SeatedActor};
 use crate::task::{Brings, Task};
@@ -17,8 +19,8 @@ use std::snapshot::Snapshot;
 use std::sync::Wait;
 use std::thread::{Scope, Threads};
 
-/// Starts a thread for a seated actor, or keeps it here where none can be started. `place` is its
-/// place at the watch.
+/// Starts a thread for a seated actor, or keeps it here where none can be started. `index` is the
+/// actor's at the watch.
 pub(crate) fn send<'s, E, R: Wait + Sync, G: Gate + Sync, B: TableName + Send + Sync + 's>(
     scope: &Scope<'s, E>,
     rt: &'s R,
@@ -26,10 +28,10 @@ pub(crate) fn send<'s, E, R: Wait + Sync, G: Gate + Sync, B: TableName + Send + 
     pictures: &'s [Picture],
     watch: &'s Watch,
     gate: &'s G,
-    place: usize,
+    index: usize,
     seated_actor: SeatedActor<B>,
 ) -> Task<'s, B>
-    requires place { place < 64 }
+    requires index { index < 64 }
     requires may_try_next { MayTryNext B.table locks.now pictures.now seated_actor }
     ensures { IsTask B.table locks.now pictures.now seated_actor result }
 {
@@ -41,15 +43,15 @@ pub(crate) fn send<'s, E, R: Wait + Sync, G: Gate + Sync, B: TableName + Send + 
     let started = scope.spawn_with(
         promise,
         move || -> Back<B>
-            requires place { place < 64 }
+            requires index { index < 64 }
             requires may_try_next { MayTryNext B.table locks.now pictures.now seated_actor }
             ensures { IfWhole B.table locks.entry.now pictures.entry.now seated_actor result }
-        { work(rt, locks, pictures, watch, gate, place, seated_actor) },
+        { work(rt, locks, pictures, watch, gate, index, seated_actor) },
     );
     match started {
         Ok(handle) => Task::Away(handle),
         Err(refused) => {
-            watch.turn_away(rt, place);
+            watch.turn_away(rt, index);
             Task::Here((refused.value)())
         }
     }
@@ -72,8 +74,8 @@ pub(crate) fn send_all<'s, E, R: Wait + Sync, G: Gate + Sync, B: TableName + Sen
 {
     let mut tasks = Vec::new(alloc);
     for seated_actor in seated_actors {
-        let place = tasks.len();
-        let task = send(scope, rt, locks, pictures, watch, gate, place, seated_actor);
+        let index = tasks.len();
+        let task = send(scope, rt, locks, pictures, watch, gate, index, seated_actor);
         if tasks.push(task).is_err() {
             return None;
         }

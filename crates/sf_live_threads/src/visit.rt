@@ -1,3 +1,5 @@
+//! What the starter of the threads does whenever something was done, here as a trait:
+//! `sf_live_compositor` implements it, and makes its vsyncs in visits.
 ghost use Rattle.std.specs.Prelude.{OnErr, OnOk};
 ghost use Rattle.sf_live_seats.specs.declared.first.FirstSeats.{FirstSeats as FirstIn};
 ghost use Rattle.sf_live_seats.specs.declared.locks.Locks.{Locks as LocksIn};

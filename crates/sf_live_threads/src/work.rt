@@ -1,11 +1,13 @@
+//! The whole work of an actor's thread: try a step, tell what it did, sleep while it can't be done,
+//! up to the last step or the stop.
 ghost use Rattle.std.specs.Prelude.{◌<◌};
 ghost use Rattle.sf_live_threads.specs.SeatedActors.{MayTryNext};
 ghost use Rattle.sf_live_threads.specs.Backs.{IfWhole};
 
 use crate::noting::Noted;
 use crate::seated_actor::{Back, SeatedActor};
-use crate::turn::turn;
-use sf_actor_steps::sf_actor::Stepped;
+use crate::try_next::try_next;
+use sf_actor_steps::Stepped;
 use sf_io::Gate;
 use sf_live_seats::Locks;
 use sf_live_watch::Watch;
@@ -43,21 +45,21 @@ pub(crate) fn work<R: Wait, G: Gate, B: TableName>(
     pictures: &[Picture],
     watch: &Watch,
     gate: &G,
-    place: usize,
+    index: usize,
     seated_actor: SeatedActor<B>,
 ) -> Back<B>
-    requires place { place < 64 }
+    requires index { index < 64 }
     requires may_try_next { MayTryNext B.table locks.now pictures.now seated_actor }
     ensures { IfWhole B.table locks.now pictures.now seated_actor result }
 {
     let mut seated_actor = seated_actor;
-    if watch.is_turned_away(rt, place) {
+    if watch.is_turned_away(rt, index) {
         return Back::Whole(seated_actor);
     }
     for _ in rt.forever() {
         let seen = watch.news(rt);
-        let (turned, stepped, noted) = turn(rt, locks, pictures, gate, seated_actor);
-        seated_actor = turned;
+        let (after, stepped, noted) = try_next(rt, locks, pictures, gate, seated_actor);
+        seated_actor = after;
         match stepped {
             Ok(stepped) => {
                 if !goes_on(rt, watch, seen, stepped, noted) {

@@ -1,3 +1,5 @@
+//! Who waits for what, and who wakes whom: threads sleep here until another one has done what they
+//! wait for, and the starter until there is something to look at.
 ghost use Rattle.std.specs.Prelude.{◌<◌};
 
 use std::sync::{Condvar, Mutex, Wait};
@@ -23,8 +25,8 @@ pub enum Awaited {
 const KINDS: usize = 3;
 
 impl Awaited {
-    /// Its place among the kinds.
-    fn place(self) -> usize
+    /// Its index among the kinds.
+    fn index(self) -> usize
         ensures { result < 3 }
     {
         match self {
@@ -57,7 +59,7 @@ struct State {
     /// How many do no more steps.
     ended: usize,
     stop: bool,
-    /// For which places no thread could be started, and whether there is such a place.
+    /// For which indexes no thread could be started, and whether there is such an index.
     turned_away: [bool; MOST_WATCHED],
     has_turned_away: bool,
 }
@@ -76,7 +78,7 @@ fn is_before(news: u64, others: u64) -> bool {
     news.wrapping_sub(others) >= LEAST_BEHIND
 }
 
-/// A watch over some threads, each with a place from 0, and over whoever started them.
+/// A watch over some threads, each with an index from 0, and over whoever started them.
 #[derive(Drop)]
 pub struct Watch {
     many: usize,
@@ -122,10 +124,10 @@ impl Watch {
 
     /// There are news for the threads that wait for this: none of them counts as idle any more.
     fn wake(&self, state: &mut State, awaited: Awaited) {
-        let place = awaited.place();
-        state.latest[place] = state.news;
-        state.idle[place] = 0;
-        self.changed[place].notify_all();
+        let index = awaited.index();
+        state.latest[index] = state.news;
+        state.idle[index] = 0;
+        self.changed[index].notify_all();
     }
 
     /// Something was done: it lets those go on that wait for what it may have brought, and whoever
@@ -168,16 +170,16 @@ impl Watch {
     /// A thread is idle until there are news for those that wait for this, later ones than it has seen.
     /// False where it is to stop.
     pub fn idle<R: Wait>(&self, rt: &R, awaited: Awaited, seen: u64) -> bool {
-        let place = awaited.place();
+        let index = awaited.index();
         let mut state = self.state.lock(rt);
-        if !is_before(seen, state.latest[place]) {
-            state.idle[place] = state.idle[place].saturating_add(1);
+        if !is_before(seen, state.latest[index]) {
+            state.idle[index] = state.idle[index].saturating_add(1);
             if state.rests(self.many) {
                 self.called.notify_all();
             }
         }
-        let state = self.changed[place].wait_while(rt, state, |state| {
-            !is_before(seen, state.latest[place]) && !state.stop
+        let state = self.changed[index].wait_while(rt, state, |state| {
+            !is_before(seen, state.latest[index]) && !state.stop
         });
         !state.stop
     }
@@ -203,8 +205,8 @@ impl Watch {
     }
 
     /// A thread, which isn't idle, sleeps until whoever started it has looked at all that was done so
-    /// far. Where no thread could be started for some place it doesn't: whoever tries the steps of that
-    /// place may wait meanwhile for what this thread does next. False where it is to stop.
+    /// far. Where no thread could be started for some index it doesn't: whoever tries the steps of that
+    /// actor may wait meanwhile for what this thread does next. False where it is to stop.
     pub fn wait_for_look<R: Wait>(&self, rt: &R) -> bool {
         let state = self.state.lock(rt);
         let told = state.news;
@@ -214,21 +216,21 @@ impl Watch {
         !state.stop
     }
 
-    /// No thread could be started for this place. Nobody waits for it.
-    pub fn turn_away<R: Wait>(&self, rt: &R, place: usize)
-        requires { place < 64 }
+    /// No thread could be started for the actor of this index. Nobody waits for it.
+    pub fn turn_away<R: Wait>(&self, rt: &R, index: usize)
+        requires { index < 64 }
     {
         let mut state = self.state.lock(rt);
-        state.turned_away[place] = true;
+        state.turned_away[index] = true;
         state.has_turned_away = true;
         state.ended = state.ended.saturating_add(1);
         self.looked_on.notify_all();
     }
 
     /// Whether none could be.
-    pub fn is_turned_away<R: Wait>(&self, rt: &R, place: usize) -> bool
-        requires { place < 64 }
+    pub fn is_turned_away<R: Wait>(&self, rt: &R, index: usize) -> bool
+        requires { index < 64 }
     {
-        self.state.lock(rt).turned_away[place]
+        self.state.lock(rt).turned_away[index]
     }
 }

@@ -8,8 +8,8 @@ use std::io::{self, BufWriter};
 use std::sync::Wait;
 use std::thread::Threads;
 
-// A run from standard input to standard output, which is written through a buffer. A flush that fails
-// at the end is a write that failed.
+/// A run from standard input to standard output, which is written through a buffer. A flush that fails
+/// at the end is a write that failed.
 fn run_over_streams<R: Threads + Wait + Sync>(
     rt: &HostRuntime,
     threads: &R,
@@ -34,7 +34,7 @@ fn run_over_streams<R: Threads + Wait + Sync>(
     }
 }
 
-// Writes a text about the program.
+/// Writes a text about the program.
 fn write_text(rt: &HostRuntime, text: &str) -> u8 {
     match println!(rt; "{}", text) {
         Ok(()) => 0,

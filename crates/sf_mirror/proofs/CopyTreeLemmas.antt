@@ -12,7 +12,7 @@ use Rattle.sf_output_shown.specs.sf_layer.declared.layer.Layer.{Layer}
 use Rattle.sf_output_shown.specs.sf_layer.declared.parent.Parent.{Parent}
 use Rattle.sf_output_shown.specs.sf_layer.declared.parent.Parent.TheVariants as parent
 use Rattle.sf_output_shown.specs.sf_tree.Kept.{HasNoCycle, IsDistinct, IsLayerInRange, IsOfKind, IsRanked, IsTied, IsTree}
-use Rattle.sf_output_shown.specs.sf_tree.Known.{IsBounded}
+use Rattle.sf_output_shown.specs.sf_tree.inner.Known.{IsBounded}
 use Rattle.sf_output_shown.specs.sf_tree.Layers.{has_layer, has_parent, index_of, is_numbered, layer_of}
 use Rattle.sf_output_shown.proofs.sf_tree_lemmas.TreeKept.{IsDistinct-filter, IsTied-stays, found_itself, pairs_from_distinct}
 use Rattle.sf_output_shown.proofs.sf_tree_lemmas.Lookups.{index_of-absent}
@@ -22,7 +22,7 @@ use Rattle.sf_output_shown.specs.ByLayer.{is_for}
 use Rattle.sf_output_shown.specs.Copies.{copied, copy_of, free_from, holds_copies, is_free, is_taken_by, least_free, mirrors, named, number_of, parent_by, parent_of, relative_of}
 use Rattle.sf_output_shown.specs.Cuts.{is_under, under}
 use Rattle.sf_output_shown.proofs.KeepingLemmas.{under-few}
-use Rattle.sf_mirror.specs.Extended.{Extends}
+use Rattle.sf_mirror.specs.inner.Extended.{Extends}
 use Rattle.sf_mirror.proofs.CopyLemmas.{in_range, of_kind}
 
 abbrev copy_number : LayerId × LayerId → LayerId

@@ -9,7 +9,7 @@ use Rattle.std.proofs.lemmas.List.{drop_all, get_or-replicate, length-replicate}
 use Rattle.sf_base.specs.declared.ids.LayerId.{LayerId}
 use Rattle.sf_output_shown.specs.sf_layer.declared.layer.Layer.{Layer}
 use Rattle.sf_output_shown.specs.Copies.{IsLeastFree, free_from, is_free, is_taken_by, least_free, named}
-use Rattle.sf_mirror.specs.Marks.{AreMarks}
+use Rattle.sf_mirror.specs.inner.Marks.{AreMarks}
 
 -- a search that begins lower finds the same
 skips : (taken : List LayerId) (steps from number : ℕ) → number < from + steps → from ≤ number → is_free taken number ≡ true → ((k : ℕ) → from ≤ k → k < number → is_free taken k ≡ false) → free_from taken steps from ≡ number

@@ -1,3 +1,5 @@
+//! The copies of layers that a mirror shows, each with its number and in its place below the
+//! mirror.
 ghost use Rattle.std.specs.List.{All};
 ghost use Rattle.sf_base.specs.declared.ids.LayerId.{LayerId as LayerIdValue};
 ghost use Rattle.sf_output_shown.specs.sf_layer.declared.layer.Layer.{Layer as LayerValue};

@@ -1,8 +1,9 @@
+//! A number for each copy that a mirror shows: the least that no layer has yet.
 ghost use Rattle.std.specs.Prelude.{◌≡◌, ◌≤◌, ◌<◌, ◌+◌, ◌++◌, ◌∷◌, [], ℕ, List, IfOk, length, false};
 ghost use Rattle.std.specs.List.{All};
 ghost use Rattle.sf_base.specs.declared.ids.LayerId.{LayerId as LayerIdValue};
 ghost use Rattle.sf_output_shown.specs.Copies.{IsLeastFree, is_free, named};
-ghost use Rattle.sf_mirror.specs.Marks.{AreMarks};
+ghost use Rattle.sf_mirror.specs.inner.Marks.{AreMarks};
 
 use sf_base::{LayerId, NoMemory};
 use sf_output_shown::sf_layer::Layer;

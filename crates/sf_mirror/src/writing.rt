@@ -1,6 +1,8 @@
+//! From a layer tree to the tree with its mirrors written out, which displays then view like any
+//! other.
 ghost use Rattle.std.specs.Prelude.{◌≡◌, ◌≤◌, ◌+◌, IfOk, OnOk, length, map};
 ghost use Rattle.sf_output_shown.specs.Copies.{mirrors, number_of, with_copies, written};
-ghost use Rattle.sf_mirror.specs.Extended.{Extends};
+ghost use Rattle.sf_mirror.specs.inner.Extended.{Extends};
 
 use crate::copies::copy_all;
 use crate::naming::name_all;

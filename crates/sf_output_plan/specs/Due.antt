@@ -31,6 +31,7 @@ abbrev pub on_stack : List (ℕ × ℕ) → List Layer → ℕ → ℕ → ℕ �
 on_stack stacks layers stack width height =
     record { layers = layers; order = order_on layers stacks stack; width = width; height = height }
 
+-- the image that is due of a further display: that of its stack
 abbrev pub display_due : List (ℕ × ℕ) → List Layer → DisplayPlan → Output ImageDue
 display_due stacks layers display = out.Display display.number (on_stack stacks layers display.stack display.width display.height)
 
@@ -42,6 +43,7 @@ frame_due plan layers = on_stack plan.stacks layers 0 plan.width plan.height
 abbrev pub id_of : ℕ → LayerId
 id_of number = record { 0 = number }
 
+-- the image that is due of a capture: that of its layer with all below it, if it is there
 abbrev pub capture_due : List Layer → CapturePlan → List (Output ImageDue)
 capture_due tree capture =
     if has_layer tree (id_of capture.layer)
@@ -53,6 +55,7 @@ capture_due tree capture =
 abbrev pub hit_number : Option LayerId → ℕ
 hit_number layer = option_map_or (λ (id : LayerId). id.0) layer 0
 
+-- the answer that is due of a hit test
 abbrev pub hit_due : Plan → List Layer → HitPlan → Output ImageDue
 hit_due plan tree hit = out.Hit hit.number (hit_number (hit_of tree plan.stacks plan.width plan.height hit.x hit.y))
 

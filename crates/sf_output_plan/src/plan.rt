@@ -1,3 +1,5 @@
+//! What a scene asks each vsync to show: its further displays, stacks, mirrors, captures and hit
+//! tests. It is read from the scene once, before the first vsync.
 use sf_base::Items;
 
 /// A further display: its number, its size, and the stack whose layers it shows.

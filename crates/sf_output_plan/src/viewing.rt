@@ -1,3 +1,5 @@
+//! From the layer tree behind a vsync to the views that are due: of each display, of each captured
+//! layer that is there, and what hit tests answer. Composing begins with these views.
 ghost use Rattle.std.specs.List.{All, flat_map};
 ghost use Rattle.std.specs.Prelude.{◌≡◌, ◌≤◌, ℕ, [], IfOk, List, length, map, true};
 ghost use Rattle.sf_display.specs.sf_layer.declared.layer.Layer.{Layer as LayerOf};

@@ -14,6 +14,7 @@ use Rattle.sf_view.specs.sf_tree.Layers.{has_layer, is_numbered, layer_of}
 use Rattle.sf_output_shown.specs.ByLayer.{first_for}
 use Rattle.sf_output_shown.specs.Cuts.{under}
 
+-- the layer has this number
 abbrev pub is_taken_by : ℕ → LayerId → Bool
 is_taken_by number id = id.0 == number
 
@@ -53,6 +54,7 @@ abbrev pub relative_of : List (LayerId × LayerId) → Option LayerId → Option
 relative_of names None = None
 relative_of names (Some id) = copy_of names id
 
+-- a copy hangs from this copy, or from nothing where there is none
 abbrev pub parent_by : Option LayerId → Parent
 parent_by None = parent.Nothing
 parent_by (Some id) = parent.Layer id
@@ -72,6 +74,7 @@ copied mirror id names layer =
     then record layer { number = number; parent = parent.Layer mirror; position = (pos 0, pos 0); z = pos 0; relative = None }
     else record layer { number = number; parent = parent_of names layer.parent; relative = relative_of names layer.relative }
 
+-- the number of a layer
 abbrev pub number_of : Layer → LayerId
 number_of layer = layer.number
 
@@ -79,6 +82,7 @@ number_of layer = layer.number
 abbrev pub copies : List Layer → List Layer → LayerId → LayerId → List Layer
 copies tree so_far mirror id = map (copied mirror id (named (map number_of so_far) (under tree id))) (under tree id)
 
+-- layers of this kind can mirror
 abbrev pub is_container : Kind → Bool
 is_container kind.Container = true
 is_container kind.Colour = false
@@ -103,5 +107,6 @@ abbrev pub written_from : List Layer → List Layer → List (ℕ × ℕ) → Li
 written_from tree so_far [] = so_far
 written_from tree so_far (pair ∷ pairs) = written_from tree (with_copies tree so_far pair) pairs
 
+-- a tree with its mirrors written out; a mirror is a pair: the layer that shows, and the one that it mirrors
 unfoldable pub written : List Layer → List (ℕ × ℕ) → List Layer
 written tree pairs = written_from tree tree pairs

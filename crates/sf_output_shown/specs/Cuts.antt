@@ -29,6 +29,7 @@ cut_layer kept id layer =
     then record layer { parent = parent.Root; position = (pos 0, pos 0); relative = None }
     else record layer { relative = relative_in kept layer.relative }
 
+-- a layer with all below it, as a tree of its own
 abbrev pub cut : List Layer → LayerId → List Layer
 cut tree id = map (cut_layer (under tree id) id) (under tree id)
 

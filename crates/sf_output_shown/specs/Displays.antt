@@ -13,6 +13,7 @@ use Rattle.sf_view.specs.sf_tree.Layers.{layer_of}
 use Rattle.sf_view.specs.Ancestry.{ancestry}
 use Rattle.sf_view.specs.Image.{image_in}
 
+-- a layer hangs from the display itself
 abbrev pub is_root : Parent → Bool
 is_root parent.Root = true
 is_root (parent.Layer _) = false
@@ -43,6 +44,7 @@ stack_by tree stacks (Some layer) = option_map_or (declared stacks) (top tree la
 unfoldable pub stack_on : List Layer → List (ℕ × ℕ) → LayerId → ℕ
 stack_on tree stacks id = stack_by tree stacks (layer_of tree id)
 
+-- a layer is on this stack
 abbrev pub is_on : List Layer → List (ℕ × ℕ) → ℕ → LayerId → Bool
 is_on tree stacks stack id = stack_on tree stacks id == stack
 

@@ -1,8 +1,10 @@
+//! Looks up from each layer for one above it, once for all layers: a display asks which layer hangs
+//! from the root, a capture or a mirror which layers stand below one.
 ghost use Rattle.std.specs.Prelude.{◌≡◌, ◌+◌, ◌∷◌, ◌<◌, IfOk, length, map, slice_get};
 ghost use Rattle.sf_view.specs.sf_layer.declared.layer.Layer.{Layer as LayerValue};
 ghost use Rattle.sf_output_shown.specs.Above.{AreFound, found_above, found_on, is_wanted};
 ghost use Rattle.sf_view.specs.sf_tree.Kept.{IsTree};
-ghost use Rattle.sf_view.specs.sf_tree.Known.{Outranks};
+ghost use Rattle.sf_view.specs.sf_tree.inner.Known.{Outranks};
 ghost use Rattle.sf_view.specs.sf_tree.Layers.{parent_layer};
 ghost use Rattle.sf_view.specs.Ancestry.{ancestry, and_above};
 
@@ -20,6 +22,7 @@ pub enum Wanted {
     Top,
 }
 
+/// Whether a layer is the one of this number, or one that stands right at the root.
 fn is_wanted(wanted: Wanted, layer: &Layer) -> bool
     ensures { result ≡ is_wanted wanted layer.now }
 {
@@ -38,8 +41,8 @@ pub fn layer_at(tree: &Tree, index: usize) -> Layer
     tree.layers()[index]
 }
 
-// The wanted layer on the way up from the layer at an index, itself included. What was found of it
-// and of its ancestors is noted, so that each is looked at once. The steps bound how far up.
+/// The wanted layer on the way up from the layer at an index, itself included. What was found of it
+/// and of its ancestors is noted, so that each is looked at once. The steps bound how far up.
 #[cycle(find)]
 fn find(
     tree: &Tree,
@@ -63,6 +66,7 @@ fn find(
     above
 }
 
+/// The wanted layer on the way up from this one, itself included. The steps bound the way.
 #[cycle(find)]
 fn find_from(
     tree: &Tree,

@@ -1,3 +1,4 @@
+//! The layer of a number with all layers below it: what a capture shows, and what a mirror copies.
 ghost use Rattle.std.specs.Prelude.{◌≡◌, IfOk};
 ghost use Rattle.sf_output_shown.specs.Cuts.{under};
 ghost use Rattle.sf_view.specs.sf_tree.Kept.{IsTree};

@@ -1,3 +1,5 @@
+//! Notes about layers that are found by a layer's number, so that a tree of many layers is walked
+//! once for all of them.
 ghost use Rattle.std.specs.Prelude.{◌≡◌, IfOk};
 ghost use Rattle.sf_output_shown.specs.ByLayer.{IsIndex, first_for};
 

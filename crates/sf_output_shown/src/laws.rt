@@ -1,3 +1,4 @@
+//! Laws about what displays show, called for their clauses alone.
 ghost use Rattle.std.specs.Prelude.{◌≡◌, ◌<◌, ℕ, List, [], None, ℤ, pos, false};
 ghost use Rattle.sf_base.specs.declared.ids.LayerId.{LayerId as LayerIdValue};
 ghost use Rattle.sf_view.specs.sf_layer.declared.layer.Layer.{Layer as LayerValue};

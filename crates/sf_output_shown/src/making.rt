@@ -1,3 +1,4 @@
+//! A layer tree of given layers, as a capture and written mirrors need one.
 ghost use Rattle.std.specs.Prelude.{◌≡◌, IfOk};
 ghost use Rattle.sf_view.specs.sf_tree.Kept.{IsTree};
 

@@ -31,7 +31,7 @@ use Rattle.sf_base.specs.declared.status.QStatus.TheVariants.{NoInit, BadValue}
 use Rattle.sf_slots.specs.declared.slot.SlotState.TheVariants.{Dequeued}
 use Rattle.sf_slots.specs.Replies.{Refusal, first_met, is_producer, is_lent, is_buffer, is_crop_of}
 use Rattle.sf_slots.specs.Told.{is_in}
-use Rattle.sf_slots.proofs.Going.{Continues-refused, unmet, own_unmet}
+use Rattle.sf_slots.proofs.HistoryGoesOn.{Continues-refused, unmet, own_unmet}
 use Rattle.sf_queue.specs.Leases.{meant, numbered}
 use Rattle.sf_queue.proofs.LeaseLemmas.{numbered-met, is_buffer-numbered}
 

@@ -1,3 +1,4 @@
+//! A producer connects to the queue, before all its other calls, and disconnects.
 ghost use Rattle.std.specs.Prelude.{◌≡◌, ◌<◌, ◌-◌, OnOk, OnErr, Some, None, false};
 ghost use Rattle.sf_base.specs.declared.ids.ActorId.{ActorId};
 ghost use Rattle.sf_slots.specs.declared.calls.PlainCall.TheVariants as call;
@@ -21,6 +22,7 @@ pub(crate) fn is_producer(connected: Option<ActorId>, by: ActorId) -> bool
     }
 }
 
+/// The first cause that is met: abandoned; connected already.
 fn connect_refusal<R: Drop>(q: &Slots<R>, by: ActorId) -> Option<QStatus>
     ensures { result ≡ refusal_of (told_of q.now) by call.Connect }
 {
@@ -55,6 +57,7 @@ pub fn connect<R: Drop>(q: &mut Slots<R>, by: ActorId) -> Result<(), QStatus>
     Ok(())
 }
 
+/// The one cause: abandoned, or the caller is not the connected producer.
 fn disconnect_refusal<R: Drop>(q: &Slots<R>, by: ActorId) -> Option<QStatus>
     ensures refusal { result ≡ refusal_of (told_of q.now) by call.Disconnect }
     ensures sound { IsSound q.now }

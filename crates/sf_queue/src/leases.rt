@@ -1,3 +1,5 @@
+//! What a producer does with a buffer that it was lent, other than to queue it: request it, cancel
+//! it, detach it.
 ghost use Rattle.std.specs.Prelude.{◌≡◌, ◌<◌, OnOk, OnErr, IfErr, IfOk, Option, Some, None, false, true, MatchOption};
 ghost use Rattle.sf_slots.specs.declared.calls.PlainCall.TheVariants as call;
 ghost use Rattle.sf_slots.specs.declared.calls.PlainReply.TheVariants as reply;

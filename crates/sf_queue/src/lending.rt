@@ -1,3 +1,4 @@
+//! A buffer comes to the producer: it is dequeued, or a buffer of its own is attached.
 ghost use Rattle.std.specs.Prelude.{◌≡◌, ◌<◌, ◌≤◌, ◌-◌, ◌^◌, OnOk, OnErr, IfErr, IfOk, None, Some, true, false, is_some, if◌then◌else◌};
 ghost use Rattle.sf_slots.specs.declared.calls.PlainCall.TheVariants as call;
 ghost use Rattle.sf_slots.specs.Tells.{Continues};
@@ -52,6 +53,7 @@ fn size_asked(settings: &Settings, width: u32, height: u32) -> (u32, u32)
     }
 }
 
+/// Whether there is a buffer, of this width and height.
 fn has_size(held: Option<Held>, size: (u32, u32)) -> bool
     ensures { result ≡ has_size held size }
 {

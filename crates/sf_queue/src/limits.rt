@@ -1,3 +1,5 @@
+//! The producer's settings: how many buffers it may hold, and whether a new frame takes the place
+//! of a waiting one.
 ghost use Rattle.std.specs.Prelude.{◌≡◌, None, OnOk, OnErr, false};
 ghost use Rattle.sf_base.specs.declared.ids.ActorId.{ActorId};
 ghost use Rattle.sf_slots.specs.declared.calls.PlainCall.TheVariants as call;
@@ -11,6 +13,8 @@ ghost use Rattle.sf_slots.specs.Effects.{refusal_in, nobody};
 use sf_base::QStatus;
 use sf_slots::{Settings, SlotState, Slots};
 
+/// The first cause that is met: abandoned; not 1 to 63; fewer than are dequeued now; the slots do
+/// not allow it.
 fn max_dequeued_refusal<R: Drop>(q: &Slots<R>, n: u32) -> Option<QStatus>
     ensures refusal { result ≡ refusal_of (told_of q.now) nobody (call.MaxDequeued n) }
     ensures allowed { result ≡ None → forbids (told_of q.now) (usable (record q.now.settings { max_dequeued = n })) ≡ false }
@@ -52,6 +56,7 @@ pub fn set_max_dequeued<R: Drop>(q: &mut Slots<R>, n: u32) -> Result<(), QStatus
     Ok(())
 }
 
+/// The first cause that is met: abandoned; the slots do not allow it.
 fn async_refusal<R: Drop>(q: &Slots<R>, on: bool) -> Option<QStatus>
     ensures refusal { result ≡ refusal_of (told_of q.now) nobody (call.Async on) }
     ensures allowed { result ≡ None → forbids (told_of q.now) (usable (record q.now.settings { asynchronous = on })) ≡ false }

@@ -1,3 +1,4 @@
+//! A frame leaves the producer for the consumer: it is refused, or stands in line.
 ghost use Rattle.std.specs.Prelude.{◌≡◌, ◌<◌, ◌-◌, ◌^◌, OnOk, OnErr, IfErr, IfOk, None, ◌+◌, ◌+ℤ◌, pos, int_le};
 ghost use Rattle.sf_slots.specs.declared.calls.PlainCall.TheVariants as call;
 ghost use Rattle.sf_slots.specs.declared.calls.PlainReply.TheVariants as reply;

@@ -17,9 +17,11 @@ no_facts = record { frames = []; fresh = []; pressed = [] }
 abbrev pub meets : LayerId × ℕ → ℕ × ℕ → Bool
 meets barrier committed = (committed.0 == barrier.0.0) && nat_le barrier.1 committed.1
 
+-- one of these frames meets the barrier
 abbrev pub is_met : List (ℕ × ℕ) → LayerId × ℕ → Bool
 is_met frames barrier = list_any (meets barrier) frames
 
+-- the layer is one of these
 abbrev pub has_layer : List ℕ → LayerId → Bool
 has_layer layers layer = list_any (λ number. number == layer.0) layers
 

@@ -1,3 +1,5 @@
+//! Why the first transaction of a token may not commit in this vsync, the first cause that applies:
+//! its time, a fence, a write, a barrier or backpressure.
 ghost use Rattle.std.specs.Prelude.{◌≡◌, length};
 ghost use Rattle.sf_ready.specs.Holds.{hold_of, number_of};
 

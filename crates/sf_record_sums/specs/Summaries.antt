@@ -10,36 +10,44 @@ unfoldable pub total : (Record → ℕ) → List Record → ℕ
 total number [] = 0
 total number (r ∷ rs) = number r + total number rs
 
+-- how many replies a record is, one or none
 abbrev pub replies : Record → ℕ
 replies (rec.Repl _) = 1
 replies _ = 0
 
+-- how many vsyncs a record begins, one or none
 abbrev pub vsyncs : Record → ℕ
 vsyncs (rec.Vsyn _) = 1
 vsyncs _ = 0
 
+-- how many commits a record is, one or none
 abbrev pub commits : Record → ℕ
 commits (rec.Comm _) = 1
 commits _ = 0
 
+-- how many rejected transactions a record is, one or none
 abbrev pub rejected : Record → ℕ
 rejected (rec.Comm c) = if c.result == 0 then 0 else 1
 rejected _ = 0
 
+-- how many frames of displays a record is, one or none
 abbrev pub frames : Record → ℕ
 frames (rec.Fram _) = 1
 frames (rec.Frad _) = 1
 frames _ = 0
 
+-- the sum of the bytes of a record's pixels
 abbrev pub pixel_sum : Record → ℕ
 pixel_sum (rec.Fram f) = sum f.pixels
 pixel_sum (rec.Frad f) = sum f.pixels
 pixel_sum _ = 0
 
+-- how many held transactions a record has
 abbrev pub held : Record → ℕ
 held (rec.Hold entries) = length entries
 held _ = 0
 
+-- how many stuck actors a record has
 abbrev pub stuck : Record → ℕ
 stuck (rec.Stuk entries) = length entries
 stuck _ = 0

@@ -6,5 +6,5 @@ mod past;
 mod progress;
 mod tally;
 
-pub use sf_record;
+pub use sf_record::{HistoryEntry, QueueHistory, Record, RunFault, StuckEntry, write_record};
 pub use tally::Tally;

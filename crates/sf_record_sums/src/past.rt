@@ -1,4 +1,4 @@
-// The bytes that came before. They exist only in proofs: at run time a `Past` is nothing.
+//! The bytes that came before. They exist only in proofs: at run time a `Past` is nothing.
 ghost use Rattle.std.specs.Prelude.{◌≡◌, ◌++◌, List, ℕ, []};
 ghost use base.Fml.{ftrue};
 

@@ -1,3 +1,4 @@
+//! The sums so far, and where in a record the next byte stands.
 ghost use Rattle.std.specs.Prelude.{◌≡◌, ◌≤◌, ◌<◌, ◌==◌, ◌&&◌, nat_lt, length, take};
 ghost use Rattle.sf_record_sums.specs.Steps.{added_up, after, begun, bump, counted, headed, judged, plain_step, shifted, start, step};
 
@@ -36,7 +37,7 @@ pub(crate) struct Progress {
     pub(crate) tail: u32,
 }
 
-// At the start of a record.
+/// At the start of a record.
 pub(crate) fn at_start(summary: Summary) -> Progress
     ensures { result ≡ start summary }
 {
@@ -52,19 +53,21 @@ pub(crate) fn at_start(summary: Summary) -> Progress
     }
 }
 
+/// A sum of 64 bits, from 0 on again behind the greatest number.
 fn sum_of(before: u64, more: u64) -> u64
     ensures { result ≡ bump before more }
 {
     before.wrapping_add(more)
 }
 
+/// A number of four bytes with one more byte behind it; the first byte goes.
 fn with_byte(number: u32, byte: u8) -> u32
     ensures { result ≡ shifted number byte }
 {
     number.wrapping_mul(256).wrapping_add(u32::from(byte))
 }
 
-// The sums, with a record of this tag and length.
+/// The sums, with a record of this tag and length.
 fn with_record(tag: u32, length: u32, summary: Summary) -> Summary
     ensures { result ≡ counted tag length summary }
 {
@@ -103,7 +106,7 @@ fn with_record(tag: u32, length: u32, summary: Summary) -> Summary
     }
 }
 
-// Behind the head of a record.
+/// Behind the head of a record.
 fn behind_head(tag: u32, length: u32, summary: Summary) -> Progress
     ensures { result ≡ begun tag length summary }
 {
@@ -135,7 +138,7 @@ fn behind_head(tag: u32, length: u32, summary: Summary) -> Progress
     }
 }
 
-// One byte of a head.
+/// One byte of a head.
 fn head_byte(progress: Progress, byte: u8) -> Progress
     ensures { result ≡ headed progress byte }
 {
@@ -158,7 +161,7 @@ fn head_byte(progress: Progress, byte: u8) -> Progress
     }
 }
 
-// One byte of the result of a commit.
+/// One byte of the result of a commit.
 fn result_byte(progress: Progress, byte: u8) -> Progress
     ensures { result ≡ judged progress byte }
 {
@@ -184,7 +187,7 @@ fn result_byte(progress: Progress, byte: u8) -> Progress
     }
 }
 
-// One byte, where it is none of pixels.
+/// One byte, where it is none of pixels.
 fn one_byte(progress: Progress, byte: u8) -> Progress
     ensures { result ≡ plain_step progress byte }
 {
@@ -205,7 +208,7 @@ fn one_byte(progress: Progress, byte: u8) -> Progress
     }
 }
 
-// The sum with the bytes.
+/// The sum with the bytes.
 fn with_bytes(before: u64, bytes: &[u8]) -> u64
     ensures { result ≡ added_up before bytes.now }
 {
@@ -216,7 +219,7 @@ fn with_bytes(before: u64, bytes: &[u8]) -> u64
     sum
 }
 
-// Bytes of pixels.
+/// Bytes of pixels.
 fn pixel_bytes(progress: Progress, bytes: &[u8]) -> Progress
     requires skipped { progress.skip ≡ 0 }
     requires within { length bytes.now ≤ progress.pixels }
@@ -234,14 +237,14 @@ fn pixel_bytes(progress: Progress, bytes: &[u8]) -> Progress
     }
 }
 
-// Whether a byte of pixels comes next.
+/// Whether a byte of pixels comes next.
 fn is_at_pixels(progress: Progress) -> bool
     ensures { result ≡ (progress.skip == 0) && nat_lt 0 progress.pixels }
 {
     progress.skip == 0 && progress.pixels > 0
 }
 
-// The progress after the first of these bytes, and how many: all that are pixels, or one.
+/// The progress after the first of these bytes, and how many: all that are pixels, or one.
 fn first_bytes(progress: Progress, bytes: &[u8]) -> (Progress, usize)
     requires some { 0 < length bytes.now }
     ensures some { 0 < result.1 }
@@ -256,7 +259,7 @@ fn first_bytes(progress: Progress, bytes: &[u8]) -> (Progress, usize)
     }
 }
 
-// The progress after these bytes.
+/// The progress after these bytes.
 pub(crate) fn advanced(progress: Progress, piece: &[u8]) -> Progress
     ensures { result ≡ after progress piece.now }
 {

@@ -1,3 +1,4 @@
+//! A sink that takes the records of a play and keeps only their sums: `--summary` writes to it.
 ghost use Rattle.std.specs.Prelude.{◌≡◌, ◌≤◌, ◌++◌, [], All, List, ℕ, Option, Some, IfOk, IsOk, length};
 ghost use Rattle.std.specs.Io.{WritesAtMost};
 ghost use Rattle.std.specs.Io.KnownBytes.{WriteAppends};

@@ -8,7 +8,7 @@ use Rattle.std.specs.Prelude.{IfSome, option_to_list}
 use Rattle.sf_script_words.specs.Text.{Text}
 use Rattle.sf_script_scene.specs.Scene.{SceneValue, has_layer}
 use Rattle.sf_script.specs.Draft.{TellsLayers, is_of, names_after, picks_of, scene_after}
-use Rattle.sf_script.specs.Fits.{LineNameFits}
+use Rattle.sf_script.specs.inner.Fits.{LineNameFits}
 use Rattle.sf_script.specs.declared.line.Keyword.{Keyword}
 use Rattle.sf_script.specs.declared.line.Keyword.TheVariants as key
 use Rattle.sf_script.specs.declared.line.Line.{Line}

@@ -1,6 +1,4 @@
-pub mod Memory
 pub mod Draft
-pub mod Fits
 pub mod Keywords
 pub mod Mentions
 pub mod Declarations
@@ -12,5 +10,6 @@ pub mod Transactions
 pub mod Order
 pub mod Script
 pub mod Parse
+pub mod inner
 pub use Rattle.sf_script_scene.specs.sf_picture
 pub use Rattle.sf_script_scene.specs as sf_script_scene

@@ -1,3 +1,4 @@
+//! The readers of what stands behind `set N LAYER`.
 ghost use Rattle.std.specs.Prelude.{◌≡◌, ◌≤◌, IfOk};
 ghost use Rattle.sf_script_words.specs.Text.{words_of};
 ghost use Rattle.sf_script_words.specs.Reading.{Gives};
@@ -13,7 +14,7 @@ use sf_script_words::{Cause, WordFault, colour, flag, is, number32, signed, word
 
 const MOST_PLACE: u32 = 16_384;
 
-// `none`, or the number of a layer, 0 being the root
+/// `none`, or the number of a layer, 0 being the root
 #[tactic(auto, unfolding(crate::specs::Changes::parent_at))]
 fn parent(line: &[u8]) -> Result<(Option<u32>, &[u8]), WordFault>
     ensures { Gives (λ x. (x.0, words_of x.1.now)) result (parent_at (words_of line.now)) }
@@ -26,7 +27,7 @@ fn parent(line: &[u8]) -> Result<(Option<u32>, &[u8]), WordFault>
     Ok((Some(parent), rest))
 }
 
-// `container PARENT`, `colour PARENT` or `buffer PARENT`, behind `create`
+/// `container PARENT`, `colour PARENT` or `buffer PARENT`, behind `create`
 #[tactic(auto, unfolding(crate::specs::Changes::created_at))]
 fn created(line: &[u8]) -> Result<(Change, &[u8]), WordFault>
     ensures given { Gives (λ x. (x.0, words_of x.1.now)) result (created_at (words_of line.now)) }
@@ -47,14 +48,14 @@ fn created(line: &[u8]) -> Result<(Change, &[u8]), WordFault>
     }
 }
 
-// A place in the order of drawing.
+/// A place in the order of drawing.
 fn depth(line: &[u8]) -> Result<(i32, &[u8]), WordFault>
     ensures { Gives (λ x. (x.0, words_of x.1.now)) result (depth_at (words_of line.now)) }
 {
     signed(line, 2_147_483_648, 2_147_483_647)
 }
 
-// A coordinate of a layer, in pixels.
+/// A coordinate of a layer, in pixels.
 fn place(line: &[u8]) -> Result<(i32, &[u8]), WordFault>
     ensures given { Gives (λ x. (x.0, words_of x.1.now)) result (place_at (words_of line.now)) }
     ensures range { IfOk result (λ x. IsPlace x.0) }
@@ -62,7 +63,7 @@ fn place(line: &[u8]) -> Result<(i32, &[u8]), WordFault>
     signed(line, MOST_PLACE, MOST_PLACE)
 }
 
-// `z Z`
+/// `z Z`
 #[tactic(auto, unfolding(crate::specs::Changes::raised_at))]
 fn raised(line: &[u8]) -> Result<(Change, &[u8]), WordFault>
     ensures given { Gives (λ x. (x.0, words_of x.1.now)) result (raised_at (words_of line.now)) }
@@ -72,7 +73,7 @@ fn raised(line: &[u8]) -> Result<(Change, &[u8]), WordFault>
     Ok((Change::Z(z), rest))
 }
 
-// `relative LAYER Z`
+/// `relative LAYER Z`
 #[tactic(auto, unfolding(crate::specs::Changes::related_at))]
 fn related(line: &[u8]) -> Result<(Change, &[u8]), WordFault>
     ensures given { Gives (λ x. (x.0, words_of x.1.now)) result (related_at (words_of line.now)) }
@@ -83,7 +84,7 @@ fn related(line: &[u8]) -> Result<(Change, &[u8]), WordFault>
     Ok((Change::Relative(layer, z), rest))
 }
 
-// `position PX PY`
+/// `position PX PY`
 #[tactic(auto, unfolding(crate::specs::Changes::moved_at))]
 fn moved(line: &[u8]) -> Result<(Change, &[u8]), WordFault>
     ensures given { Gives (λ x. (x.0, words_of x.1.now)) result (moved_at (words_of line.now)) }
@@ -94,7 +95,7 @@ fn moved(line: &[u8]) -> Result<(Change, &[u8]), WordFault>
     Ok((Change::Position(x, y), rest))
 }
 
-// `crop PX PY CW CH`, behind `crop`
+/// `crop PX PY CW CH`, behind `crop`
 #[tactic(auto, unfolding(crate::specs::Changes::framed_at))]
 fn framed(line: &[u8]) -> Result<(Change, &[u8]), WordFault>
     ensures given { Gives (λ x. (x.0, words_of x.1.now)) result (framed_at (words_of line.now)) }
@@ -107,7 +108,7 @@ fn framed(line: &[u8]) -> Result<(Change, &[u8]), WordFault>
     Ok((Change::Crop(x, y, width, height), rest))
 }
 
-// `crop none` or `crop PX PY CW CH`
+/// `crop none` or `crop PX PY CW CH`
 #[tactic(auto, unfolding(crate::specs::Changes::cropped_at))]
 fn cropped(line: &[u8]) -> Result<(Change, &[u8]), WordFault>
     ensures given { Gives (λ x. (x.0, words_of x.1.now)) result (cropped_at (words_of line.now)) }
@@ -120,7 +121,7 @@ fn cropped(line: &[u8]) -> Result<(Change, &[u8]), WordFault>
     framed(line)
 }
 
-// `alpha ALPHA`
+/// `alpha ALPHA`
 fn covered(line: &[u8]) -> Result<(Change, &[u8]), WordFault>
     ensures given { Gives (λ x. (x.0, words_of x.1.now)) result (with_number_at change.Alpha 255 (words_of line.now)) }
     ensures fits { IfOk result (λ x. IsChange x.0) }
@@ -129,7 +130,7 @@ fn covered(line: &[u8]) -> Result<(Change, &[u8]), WordFault>
     Ok((Change::Alpha(alpha as u8), rest))
 }
 
-// `orient ORIENT`
+/// `orient ORIENT`
 fn oriented(line: &[u8]) -> Result<(Change, &[u8]), WordFault>
     ensures given { Gives (λ x. (x.0, words_of x.1.now)) result (with_number_at change.Orient 7 (words_of line.now)) }
     ensures fits { IfOk result (λ x. IsChange x.0) }
@@ -138,7 +139,7 @@ fn oriented(line: &[u8]) -> Result<(Change, &[u8]), WordFault>
     Ok((Change::Orient(orientation as u8), rest))
 }
 
-// `colour COLOUR`
+/// `colour COLOUR`
 #[tactic(auto, unfolding(crate::specs::Changes::coloured_at))]
 fn coloured(line: &[u8]) -> Result<(Change, &[u8]), WordFault>
     ensures given { Gives (λ x. (x.0, words_of x.1.now)) result (coloured_at (words_of line.now)) }
@@ -148,7 +149,7 @@ fn coloured(line: &[u8]) -> Result<(Change, &[u8]), WordFault>
     Ok((Change::Colour(colour), rest))
 }
 
-// What this form changes.
+/// What this form changes.
 #[tactic(auto, unfolding(crate::specs::Changes::changed_at))]
 fn changed(form: ChangeForm, line: &[u8]) -> Result<(Change, &[u8]), WordFault>
     ensures given { Gives (λ x. (x.0, words_of x.1.now)) result (changed_at form (words_of line.now)) }

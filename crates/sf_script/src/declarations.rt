@@ -1,3 +1,4 @@
+//! The readers of the lines that declare: the display, timelines, queues, pictures and actors.
 ghost use Rattle.std.specs.Prelude.{◌≡◌, ◌==◌, ◌≤◌, false, IfOk};
 ghost use Rattle.sf_base.specs.declared.format.Format.TheVariants.{Rgba};
 ghost use Rattle.sf_script_words.specs.Text.{words_of};
@@ -7,7 +8,7 @@ ghost use Rattle.sf_script_scene.specs.Ranges.{IsFill, IsQueue, IsTimeline};
 ghost use Rattle.sf_script_scene.specs.Scene.{has_actor, has_queue, has_timeline};
 ghost use Rattle.sf_script.specs.Declarations.{fill_at, format_at, format_of, header_at, new_actor_at, new_number_at};
 ghost use Rattle.sf_script.specs.Declarations.{new_picture_at, new_queue_at, new_timeline_at, version_at, versioned_format_at};
-ghost use Rattle.sf_script.specs.Fits.{ActorFits, IsNew, PictureFits};
+ghost use Rattle.sf_script.specs.inner.Fits.{ActorFits, IsNew, PictureFits};
 
 use crate::line::Header;
 use sf_base::{Format, Items, Rect};
@@ -18,6 +19,7 @@ use sf_script_words::{
 };
 use std::alloc::Global;
 
+/// The version of a script, 1 or 2, and what follows it in the line.
 #[tactic(auto, unfolding(crate::specs::Declarations::version_at))]
 fn version(line: &[u8]) -> Result<(u32, &[u8]), WordFault>
     ensures given { Gives (λ x. (x.0, words_of x.1.now)) result (version_at (words_of line.now)) }
@@ -48,7 +50,7 @@ pub fn header_line(line: &[u8]) -> Result<Header, WordFault>
     })
 }
 
-// A width or height of a buffer or a fill, in pixels.
+/// A width or height of a buffer or a fill, in pixels.
 fn side(line: &[u8]) -> Result<(u32, &[u8]), WordFault>
     ensures given { Gives (λ x. (x.0, words_of x.1.now)) result (number_at 1 512 (words_of line.now)) }
     ensures range { IfOk result (λ x. (1 ≤ x.0) × (x.0 ≤ 512)) }
@@ -86,7 +88,7 @@ pub fn queue_line(scene: &Scene, line: &[u8]) -> Result<QueueDecl, WordFault>
     })
 }
 
-// The format of a picture.
+/// The format of a picture.
 fn format_in(word: &[u8]) -> Option<Format>
     ensures { result ≡ format_of word.now }
 {
@@ -101,7 +103,7 @@ fn format_in(word: &[u8]) -> Option<Format>
     }
 }
 
-// `format F`, or nothing
+/// `format F`, or nothing
 #[tactic(auto, unfolding(crate::specs::Declarations::format_at))]
 fn format(line: &[u8]) -> Result<Format, WordFault>
     ensures { Gives (λ x. x) result (format_at (words_of line.now)) }
@@ -118,7 +120,7 @@ fn format(line: &[u8]) -> Result<Format, WordFault>
     Ok(format)
 }
 
-// The end of a `picture` line.
+/// The end of a `picture` line.
 fn versioned_format(version: u32, line: &[u8]) -> Result<Format, WordFault>
     ensures given { Gives (λ x. x) result (versioned_format_at version (words_of line.now)) }
     ensures first { IfOk result (λ f. version ≡ 1 → f ≡ Rgba) }

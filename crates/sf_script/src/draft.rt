@@ -1,9 +1,11 @@
+//! What the lines so far spell: the scene, and what may follow. A script is read by adding one line
+//! to it after another.
 ghost use Rattle.std.specs.Prelude.{◌≡◌, ◌==◌, ◌<◌, ◌≤◌, ◌+◌, ◌++◌, ◌∷◌, [], IfOk, IfSome, None, Some, if◌then◌else◌, length, nat_lt};
 ghost use Rattle.sf_script_scene.specs.Limits.{IsHeader};
 ghost use Rattle.sf_script_scene.specs.Scene.{SceneValue, bare_scene, has_layer};
 ghost use Rattle.sf_script.specs.Draft.{TellsLayers, draft_after, has_room, is_any, is_ended, is_led, may_follow, may_follow_rank};
 ghost use Rattle.sf_script.specs.Draft.{names_after, no_lines, picks_of, place_of, rank_of_keyword, rank_of_line, scene_after};
-ghost use Rattle.sf_script.specs.Fits.{LineFits, SceneFits};
+ghost use Rattle.sf_script.specs.inner.Fits.{LineFits, SceneFits};
 
 use crate::line::{Header, Keyword, Line};
 use sf_base::{Items, NoMemory};
@@ -43,6 +45,7 @@ impl Model for Draft {
     ghost invariant = { λ s. IsDraft s.scene s.names.items s.layers };
 }
 
+/// Where a keyword's lines stand in a script: ranks never fall from one line to the next.
 fn rank_of(keyword: Keyword) -> u32
     ensures { result ≡ rank_of_keyword keyword }
 {
@@ -62,6 +65,7 @@ fn rank_of(keyword: Keyword) -> u32
     }
 }
 
+/// The rank of a line that was read, which is that of its keyword.
 fn line_rank(line: &Line) -> u32
     ensures { result ≡ rank_of_line line.now }
 {
@@ -81,7 +85,7 @@ fn line_rank(line: &Line) -> u32
     }
 }
 
-// Whether a line with this first word may follow one of this rank, or none.
+/// Whether a line with this first word may follow one of this rank, or none.
 fn follows(rank: Option<u32>, keyword: Keyword) -> bool
     ensures { result ≡ may_follow_rank rank keyword }
 {
@@ -92,7 +96,7 @@ fn follows(rank: Option<u32>, keyword: Keyword) -> bool
     }
 }
 
-// The place of a name among these.
+/// The place of a name among these.
 fn place_among(names: &[Items<u8>], name: &[u8]) -> Option<usize>
     ensures place { result ≡ place_of name.now names.now }
     ensures range { IfSome result (λ place. place < length names.now) }
@@ -100,7 +104,7 @@ fn place_among(names: &[Items<u8>], name: &[u8]) -> Option<usize>
     names.iter().position(|n| n.as_slice() == name)
 }
 
-// The names of the last actor after one more line.
+/// The names of the last actor after one more line.
 fn names_with(
     alloc: Global,
     mut names: Vec<Items<u8>>,
@@ -120,7 +124,7 @@ fn names_with(
     Ok(names)
 }
 
-// The layers with a stack after one more line.
+/// The layers with a stack after one more line.
 #[tactic(auto, using(crate::proofs::DraftLemmas::layers_more))]
 fn layers_with(
     alloc: Global,
@@ -139,7 +143,7 @@ fn layers_with(
     }
 }
 
-// The scene that a `scene` line begins.
+/// The scene that a `scene` line begins.
 fn begun(alloc: Global, header: Header) -> Scene
     requires { IsHeader header.version header.width header.height header.period }
     ensures { result ≡ bare_scene header.version header.width header.height header.period }
@@ -153,7 +157,7 @@ fn begun(alloc: Global, header: Header) -> Scene
     )
 }
 
-// The scene after one more line.
+/// The scene after one more line.
 fn scene_with(alloc: Global, scene: Scene, line: Line) -> Result<Scene, NoMemory>
     requires fits { SceneFits scene line }
     requires few { length scene.order + length (picks_of line) ≤ 1048576 }
@@ -222,14 +226,14 @@ impl Draft {
         !self.scene.actors.as_slice().is_empty()
     }
 
-    // Whether some picture is declared.
+    /// Whether some picture is declared.
     fn has_any_picture(&self) -> bool
         ensures { result ≡ is_any self.now.scene.pictures }
     {
         !self.scene.pictures.as_slice().is_empty()
     }
 
-    // Whether a step has an actor before it, and a fill a picture.
+    /// Whether a step has an actor before it, and a fill a picture.
     fn leads(&self, keyword: Keyword) -> bool
         ensures { result ≡ is_led self.now.scene keyword }
     {

@@ -1,3 +1,4 @@
+//! Where a script has its first fault, and which: what the record SFLT shows.
 ghost use Rattle.std.specs.Prelude.{◌≡◌};
 ghost use Rattle.sf_script.specs.declared.fault.LineFault.TheVariants.{NoMemory, Word};
 

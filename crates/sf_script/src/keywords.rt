@@ -1,3 +1,4 @@
+//! From the first word of a line to its form, by the version and by where it stands.
 ghost use Rattle.std.specs.Prelude.{◌≡◌, Bool, true, IfSome};
 ghost use Rattle.sf_script.specs.Draft.{is_of};
 ghost use Rattle.sf_script.specs.Keywords.{change_form_of, consumer_form_of, keyword_of, plain_keyword_of, producer_form_of};
@@ -6,7 +7,7 @@ ghost use Rattle.sf_script.specs.Keywords.{second_keyword_of, step_form_of, tran
 use crate::line::{ChangeForm, Keyword, PointForm, QueueForm, Side, StepForm};
 use sf_script_words::is;
 
-// The form of a producer's step.
+/// The form of a producer's step.
 #[tactic(auto, unfolding(crate::specs::Keywords::producer_form_of))]
 fn producer_form(word: &[u8]) -> Option<StepForm>
     ensures { result ≡ producer_form_of word.now }
@@ -40,7 +41,7 @@ fn producer_form(word: &[u8]) -> Option<StepForm>
     }
 }
 
-// The form of a consumer's step, or of one on a timeline.
+/// The form of a consumer's step, or of one on a timeline.
 #[tactic(auto, unfolding(crate::specs::Keywords::consumer_form_of))]
 fn consumer_form(word: &[u8]) -> Option<StepForm>
     ensures { result ≡ consumer_form_of word.now }
@@ -66,7 +67,7 @@ fn consumer_form(word: &[u8]) -> Option<StepForm>
     }
 }
 
-// The form of a step on a transaction.
+/// The form of a step on a transaction.
 #[tactic(auto, unfolding(crate::specs::Keywords::transaction_form_of))]
 fn transaction_form(word: &[u8]) -> Option<StepForm>
     ensures { result ≡ transaction_form_of word.now }
@@ -90,7 +91,7 @@ fn transaction_form(word: &[u8]) -> Option<StepForm>
     }
 }
 
-// The form of a step.
+/// The form of a step.
 fn step_form(word: &[u8]) -> Option<StepForm>
     ensures { result ≡ step_form_of word.now }
 {
@@ -103,7 +104,7 @@ fn step_form(word: &[u8]) -> Option<StepForm>
     transaction_form(word)
 }
 
-// The form of a line that is no step.
+/// The form of a line that is no step.
 #[tactic(auto, unfolding(crate::specs::Keywords::plain_keyword_of))]
 fn plain_keyword(has_actor: bool, word: &[u8]) -> Option<Keyword>
     ensures given { result ≡ plain_keyword_of has_actor word.now }
@@ -130,7 +131,7 @@ fn plain_keyword(has_actor: bool, word: &[u8]) -> Option<Keyword>
     }
 }
 
-// The form of a line that version 2 has, and version 1 has not.
+/// The form of a line that version 2 has, and version 1 has not.
 #[tactic(auto, unfolding(crate::specs::Keywords::second_keyword_of))]
 fn second_keyword(word: &[u8]) -> Option<Keyword>
     ensures { result ≡ second_keyword_of word.now }
@@ -150,7 +151,7 @@ fn second_keyword(word: &[u8]) -> Option<Keyword>
     }
 }
 
-// The same in this version.
+/// The same in this version.
 #[tactic(auto, using(crate::proofs::DraftLemmas::second_has))]
 fn versioned_keyword(is_second: bool, word: &[u8]) -> Option<Keyword>
     ensures given { result ≡ versioned_keyword_of is_second word.now }

@@ -1,3 +1,4 @@
+//! The lines of a script, by their forms, as they are read.
 use sf_base::Items;
 use sf_script_scene::sf_picture::{Fill, Picture};
 use sf_script_scene::{CaptureDecl, DisplayDecl, HitDecl, Pick, QueueDecl, Step};

@@ -1,10 +1,11 @@
+//! The readers of what a line names: declared numbers, and names of an actor.
 ghost use Rattle.std.specs.Prelude.{◌≡◌, true, length, IfOk};
 ghost use Rattle.sf_script_words.specs.Text.{words_of};
 ghost use Rattle.sf_script_words.specs.Reading.{Gives};
 ghost use Rattle.sf_script_scene.specs.Ranges.{IsName};
 ghost use Rattle.sf_script_scene.specs.Scene.{has_picture, has_queue, has_timeline};
-ghost use Rattle.sf_script.specs.Fits.{NameFits};
-ghost use Rattle.sf_script.specs.Memory.{GivesUnless};
+ghost use Rattle.sf_script.specs.inner.Fits.{NameFits};
+ghost use Rattle.sf_script.specs.inner.Memory.{GivesUnless};
 ghost use Rattle.sf_script.specs.Mentions.{bound_name_at, declared_picture_at, declared_queue_at, declared_timeline_at, timeline_of, used_name_at};
 
 use crate::draft::Draft;

@@ -1,9 +1,10 @@
+//! The reader of `order` lines.
 ghost use Rattle.std.specs.Prelude.{◌≡◌, ◌==◌, ◌≤◌, [], length, not, All, IfOk, IfSome};
 ghost use Rattle.std.specs.List.{prefix_len};
 ghost use Rattle.sf_script_words.specs.Text.{words_of};
 ghost use Rattle.sf_script_words.specs.Reading.{Gives};
 ghost use Rattle.sf_script_scene.specs.Limits.{IsPick};
-ghost use Rattle.sf_script.specs.Memory.{GivesUnless};
+ghost use Rattle.sf_script.specs.inner.Memory.{GivesUnless};
 ghost use Rattle.sf_script.specs.Order.{order_at, pick_at, pick_of, picked_of, picks_at, times_of};
 
 use crate::fault::LineFault;
@@ -11,7 +12,7 @@ use sf_script_scene::{Pick, Scene, most_actors};
 use sf_script_words::{Cause, WordFault, is, next_word, number_within, word, wrong};
 use std::alloc::Global;
 
-// Who is picked, of so many.
+/// Who is picked, of so many.
 #[tactic(auto, unfolding(crate::specs::Order::picked_of))]
 fn picked(most: u32, who: &[u8]) -> Option<u32>
     ensures { result ≡ picked_of most who.now }
@@ -23,7 +24,7 @@ fn picked(most: u32, who: &[u8]) -> Option<u32>
     Some(number as u32)
 }
 
-// How often, by what stands behind who is picked.
+/// How often, by what stands behind who is picked.
 #[tactic(auto, unfolding(crate::specs::Order::times_of))]
 fn times(behind: &[u8]) -> Option<u32>
     ensures given { result ≡ times_of behind.now }
@@ -38,7 +39,7 @@ fn times(behind: &[u8]) -> Option<u32>
     }
 }
 
-// How long the part before a `*` is.
+/// How long the part before a `*` is.
 fn who_length(word: &[u8]) -> usize
     ensures count { result ≡ prefix_len (λ b. not (b == 42)) word.now }
     ensures within { result ≤ length word.now }
@@ -46,6 +47,7 @@ fn who_length(word: &[u8]) -> usize
     word.iter().take_while(|b| **b != b'*').count()
 }
 
+/// A word of the order: whose pick it is, and how often, as in `2*5` or `v`.
 #[tactic(auto, unfolding(crate::specs::Order::pick_of))]
 fn pick(most: u32, word: &[u8]) -> Option<Pick>
     ensures given { result ≡ pick_of most word.now }
@@ -58,7 +60,7 @@ fn pick(most: u32, word: &[u8]) -> Option<Pick>
     }
 }
 
-// The pick of a word, with which what is left of the line begins.
+/// The pick of a word, with which what is left of the line begins.
 #[tactic(auto, unfolding(crate::specs::Order::pick_at))]
 fn declared_pick(scene: &Scene, line: &[u8], word: &[u8]) -> Result<Pick, WordFault>
     ensures given { Gives (λ x. x) result (pick_at scene.now (length (words_of line.now)) word.now) }
@@ -85,6 +87,8 @@ pub fn order_line(alloc: Global, scene: &Scene, line: &[u8]) -> Result<Vec<Pick>
     picks(alloc, scene, line)
 }
 
+/// The picks of a line of the order. The first word that is no pick, or names no actor of the
+/// scene, tells the fault.
 #[tactic(auto, unfolding(crate::specs::Order::picks_at), using(sf_script_words::proofs::Sets::word_counts))]
 fn picks(alloc: Global, scene: &Scene, line: &[u8]) -> Result<Vec<Pick>, LineFault>
     ensures given { GivesUnless (λ x. x.items) result (picks_at scene.now [] (words_of line.now)) }

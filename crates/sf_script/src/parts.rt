@@ -1,10 +1,11 @@
+//! The readers of parts that several forms have: times, sizes, crops and fences.
 ghost use Rattle.std.specs.Prelude.{◌≡◌, [], true, length, IfOk, IfSome};
 ghost use Rattle.sf_script_words.specs.Text.{words_of};
 ghost use Rattle.sf_script_words.specs.Reading.{Gives};
 ghost use Rattle.sf_script_scene.specs.Named.{AreKnown, timelines_in};
 ghost use Rattle.sf_script_scene.specs.Ranges.{IsAskedSize, IsPart, IsTime};
 ghost use Rattle.sf_script_scene.specs.Scene.{has_timeline};
-ghost use Rattle.sf_script.specs.Memory.{GivesUnless};
+ghost use Rattle.sf_script.specs.inner.Memory.{GivesUnless};
 ghost use Rattle.sf_script.specs.Parts.{asked_size_at, cut_point, expected_at, fences_at, moment_at, part_at, point_of, some_part_at, time_at, value_at};
 
 use crate::fault::LineFault;
@@ -80,7 +81,7 @@ pub fn time(line: &[u8]) -> Result<(Option<u64>, &[u8]), WordFault>
     Ok((Some(time), rest))
 }
 
-// A part of a buffer, behind `crop`.
+/// A part of a buffer, behind `crop`.
 #[tactic(auto, unfolding(crate::specs::Parts::some_part_at))]
 fn some_part(line: &[u8]) -> Result<(Option<(u32, u32, u32, u32)>, &[u8]), WordFault>
     ensures given { Gives (λ x. (x.0, words_of x.1.now)) result (some_part_at (words_of line.now)) }
@@ -108,7 +109,7 @@ pub fn part(line: &[u8]) -> Result<(Option<(u32, u32, u32, u32)>, &[u8]), WordFa
     some_part(rest)
 }
 
-// A point, by its two words, each with what is left of the line from it on.
+/// A point, by its two words, each with what is left of the line from it on.
 #[tactic(auto, unfolding(crate::specs::Parts::point_of))]
 fn point(
     scene: &Scene,
@@ -127,7 +128,7 @@ fn point(
     Ok((number, value))
 }
 
-// The fault of a line that ends behind the timeline of a point.
+/// The fault of a line that ends behind the timeline of a point.
 #[tactic(auto, unfolding(crate::specs::Parts::cut_point, crate::specs::Mentions::timeline_of))]
 fn cut(scene: &Scene, timeline: &[u8]) -> WordFault
     ensures { cut_point scene.now timeline.now ≡ Err result }

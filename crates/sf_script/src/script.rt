@@ -1,9 +1,11 @@
+//! From the bytes of a script to the scene that they spell, or to its first fault: what `sf_app`
+//! calls before a run.
 ghost use Rattle.std.specs.Prelude.{◌≡◌, ◌≤◌, ◌<◌, ◌+◌, ◌==◌, [], IfOk, length, true};
 ghost use Rattle.std.specs.Str.{is_utf8};
 ghost use Rattle.sf_script_words.specs.Text.{lines_of, words_of};
 ghost use Rattle.sf_script.specs.Draft.{has_room, is_of, picks_of};
-ghost use Rattle.sf_script.specs.Fits.{LineFits};
-ghost use Rattle.sf_script.specs.Memory.{GivesUnless};
+ghost use Rattle.sf_script.specs.inner.Fits.{LineFits};
+ghost use Rattle.sf_script.specs.inner.Memory.{GivesUnless};
 ghost use Rattle.sf_script.specs.Parse.{GivesDraft, GivesScene, parsed_of, too_long};
 ghost use Rattle.sf_script.specs.Script.{draft_at, form_at, is_skipped, line_at, lines_at, placed, scene_at, script_of, words_at};
 
@@ -24,7 +26,7 @@ use sf_script_words::{
 };
 use std::alloc::Global;
 
-// The line behind its first word, but for steps and picks.
+/// The line behind its first word, but for steps and picks.
 #[tactic(auto, unfolding(crate::specs::Script::form_at))]
 fn form(alloc: Global, draft: &Draft, keyword: Keyword, line: &[u8]) -> Result<Line, LineFault>
     requires version { is_of (draft.now.scene.version == 2) keyword ≡ true }
@@ -61,7 +63,7 @@ fn form(alloc: Global, draft: &Draft, keyword: Keyword, line: &[u8]) -> Result<L
     }
 }
 
-// The words of a line that is not skipped.
+/// The words of a line that is not skipped.
 #[tactic(auto, unfolding(crate::specs::Script::words_at))]
 fn line_words(alloc: Global, draft: &Draft, line: &[u8]) -> Result<Line, LineFault>
     ensures given { GivesUnless (λ x. x) result (words_at draft.now (words_of line.now)) }
@@ -78,14 +80,14 @@ fn line_words(alloc: Global, draft: &Draft, line: &[u8]) -> Result<Line, LineFau
     form(alloc, draft, keyword, rest)
 }
 
-// Whether a line is UTF-8.
+/// Whether a line is UTF-8.
 fn is_text(line: &[u8]) -> bool
     ensures { result ≡ is_utf8 line.now }
 {
     matches!(std::str::from_utf8(line), Ok(_))
 }
 
-// A line that is not skipped.
+/// A line that is not skipped.
 #[tactic(auto, unfolding(crate::specs::Script::line_at), using(sf_script_words::proofs::Sets::word_counts))]
 fn whole_line(alloc: Global, draft: &Draft, line: &[u8]) -> Result<Line, LineFault>
     ensures given { GivesUnless (λ x. x) result (line_at draft.now line.now) }
@@ -101,7 +103,7 @@ fn whole_line(alloc: Global, draft: &Draft, line: &[u8]) -> Result<Line, LineFau
     line_words(alloc, draft, line)
 }
 
-// Whether a line is empty or a comment.
+/// Whether a line is empty or a comment.
 #[tactic(auto, unfolding(crate::specs::Script::is_skipped))]
 fn skips(line: &[u8]) -> bool
     ensures { result ≡ is_skipped (words_of line.now) }
@@ -112,7 +114,7 @@ fn skips(line: &[u8]) -> bool
     }
 }
 
-// A fault in the line with this number.
+/// A fault in the line with this number.
 #[tactic(auto, using(sf_script_words::proofs::Sets::word_counts))]
 fn place(number: u32, line: &[u8], fault: WordFault) -> ScriptFault
     requires { length line.now ≤ 1048576 }
@@ -126,7 +128,7 @@ fn place(number: u32, line: &[u8], fault: WordFault) -> ScriptFault
     }
 }
 
-// What is spelled after the line with this number, which may be one that is skipped.
+/// What is spelled after the line with this number, which may be one that is skipped.
 #[tactic(auto, unfolding(crate::specs::Script::draft_at))]
 fn draft_with(alloc: Global, draft: Draft, number: u32, line: &[u8]) -> Result<Draft, ParseFault>
     requires few { length draft.scene.order + length line.now ≤ 1048576 }
@@ -146,7 +148,7 @@ fn draft_with(alloc: Global, draft: Draft, number: u32, line: &[u8]) -> Result<D
     }
 }
 
-// The scene of all lines, of which the next would have this number.
+/// The scene of all lines, of which the next would have this number.
 #[tactic(auto, unfolding(crate::specs::Script::scene_at))]
 fn scene(draft: Draft, number: u32) -> Result<Scene, ParseFault>
     ensures { GivesScene result (scene_at number draft) }
@@ -161,7 +163,7 @@ fn scene(draft: Draft, number: u32) -> Result<Scene, ParseFault>
     }))
 }
 
-// The scene that a script spells.
+/// The scene that a script spells.
 #[tactic(auto, unfolding(crate::specs::Script::lines_at, crate::specs::Script::script_of))]
 fn whole_script(alloc: Global, bytes: &[u8]) -> Result<Scene, ParseFault>
     requires { length bytes.now ≤ 1048576 }

@@ -1,10 +1,11 @@
+//! The readers of the lines that version 2 has alone.
 ghost use Rattle.std.specs.Prelude.{◌≡◌, ◌≤◌, false, IfOk};
 ghost use Rattle.sf_script_words.specs.Text.{words_of};
 ghost use Rattle.sf_script_words.specs.Reading.{Gives};
 ghost use Rattle.sf_script_scene.specs.Ranges.{IsCapture, IsDisplay, IsHit, IsMirror, IsStack};
 ghost use Rattle.sf_script_scene.specs.Scene.{has_capture, has_display, has_hit, has_layer};
 ghost use Rattle.sf_script.specs.Declarations.{new_number_at};
-ghost use Rattle.sf_script.specs.Fits.{IsNewSecond};
+ghost use Rattle.sf_script.specs.inner.Fits.{IsNewSecond};
 ghost use Rattle.sf_script.specs.Second.{new_capture_at, new_display_at, new_hit_at, new_mirror_at, new_stack_at};
 
 use crate::draft::Draft;

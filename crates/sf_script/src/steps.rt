@@ -1,3 +1,5 @@
+//! The readers of an actor's steps on queues and timelines, and the choice among all forms of
+//! steps.
 ghost use Rattle.std.specs.Prelude.{◌≡◌, IfOk, Result};
 ghost use Rattle.sf_script_words.specs.Text.{words_of};
 ghost use Rattle.sf_script_words.specs.Reading.{Gives};
@@ -6,8 +8,8 @@ ghost use Rattle.sf_script_scene.specs.Limits.{StepFits};
 ghost use Rattle.sf_script_scene.specs.Ranges.{IsName};
 ghost use Rattle.sf_script_scene.specs.declared.step.Step.{Step};
 ghost use Rattle.sf_script.specs.Draft.{DraftValue};
-ghost use Rattle.sf_script.specs.Fits.{NameFits, NamedFits};
-ghost use Rattle.sf_script.specs.Memory.{GivesUnless};
+ghost use Rattle.sf_script.specs.inner.Fits.{NameFits, NamedFits};
+ghost use Rattle.sf_script.specs.inner.Memory.{GivesUnless};
 ghost use Rattle.sf_script.specs.Steps.{acquire_at, as_name_at, async_at, attach_at, dequeue_at, detach_at, draw_at, most_at};
 ghost use Rattle.sf_script.specs.Steps.{on_point_at, on_queue_at, plain, queue_at, request_at, return_at, step_at, step_of_attach};
 ghost use Rattle.sf_script.specs.Steps.{step_of_dequeue, step_of_detach, step_of_most, step_of_return, step_on_point, step_on_queue, unnamed};
@@ -22,7 +24,7 @@ use sf_script_scene::{Scene, Step};
 use sf_script_words::{WordFault, end, fixed, flag, number32};
 use std::alloc::Global;
 
-// `connect Q`, `disconnect Q`, `abandon Q`
+/// `connect Q`, `disconnect Q`, `abandon Q`
 #[tactic(auto, unfolding(crate::specs::Steps::on_queue_at))]
 fn on_queue(scene: &Scene, form: QueueForm, line: &[u8]) -> Result<Step, WordFault>
     ensures given { Gives (λ x. x) result (on_queue_at scene.now form (words_of line.now)) }
@@ -37,7 +39,7 @@ fn on_queue(scene: &Scene, form: QueueForm, line: &[u8]) -> Result<Step, WordFau
     }
 }
 
-// `maxdequeued Q COUNT`, `maxacquired Q COUNT`
+/// `maxdequeued Q COUNT`, `maxacquired Q COUNT`
 #[tactic(auto, unfolding(crate::specs::Steps::most_at))]
 fn most(scene: &Scene, side: Side, line: &[u8]) -> Result<Step, WordFault>
     ensures given { Gives (λ x. x) result (most_at scene.now side (words_of line.now)) }
@@ -52,7 +54,7 @@ fn most(scene: &Scene, side: Side, line: &[u8]) -> Result<Step, WordFault>
     }
 }
 
-// `async Q FLAG`
+/// `async Q FLAG`
 #[tactic(auto, unfolding(crate::specs::Steps::async_at))]
 fn asynchronous(scene: &Scene, line: &[u8]) -> Result<Step, WordFault>
     ensures given { Gives (λ x. x) result (async_at scene.now (words_of line.now)) }
@@ -64,7 +66,7 @@ fn asynchronous(scene: &Scene, line: &[u8]) -> Result<Step, WordFault>
     Ok(Step::Async(number, flag))
 }
 
-// `as NAME`
+/// `as NAME`
 #[tactic(auto, unfolding(crate::specs::Steps::as_name_at))]
 fn as_name<'a>(
     alloc: Global,
@@ -79,7 +81,7 @@ fn as_name<'a>(
     bound_name(alloc, draft, rest)
 }
 
-// `dequeue Q as S [size DW DH]`, `dequeuewait Q as S [size DW DH]`
+/// `dequeue Q as S [size DW DH]`, `dequeuewait Q as S [size DW DH]`
 #[tactic(auto, unfolding(crate::specs::Steps::dequeue_at))]
 fn dequeue(alloc: Global, draft: &Draft, waits: bool, line: &[u8]) -> Result<NamedStep, LineFault>
     ensures given { GivesUnless (λ x. x) result (dequeue_at draft.now waits (words_of line.now)) }
@@ -98,7 +100,7 @@ fn dequeue(alloc: Global, draft: &Draft, waits: bool, line: &[u8]) -> Result<Nam
     }
 }
 
-// `request S`
+/// `request S`
 #[tactic(auto, unfolding(crate::specs::Steps::request_at))]
 fn request(draft: &Draft, line: &[u8]) -> Result<Step, WordFault>
     ensures given { Gives (λ x. x) result (request_at draft.now (words_of line.now)) }
@@ -109,7 +111,7 @@ fn request(draft: &Draft, line: &[u8]) -> Result<Step, WordFault>
     Ok(Step::Request(name))
 }
 
-// `draw S P`
+/// `draw S P`
 #[tactic(auto, unfolding(crate::specs::Steps::draw_at))]
 fn draw(draft: &Draft, line: &[u8]) -> Result<Step, WordFault>
     ensures given { Gives (λ x. x) result (draw_at draft.now (words_of line.now)) }
@@ -121,7 +123,7 @@ fn draw(draft: &Draft, line: &[u8]) -> Result<Step, WordFault>
     Ok(Step::Draw(name, picture))
 }
 
-// `queue S P [time TIME] [crop FX FY FW FH] [fence T V]*`
+/// `queue S P [time TIME] [crop FX FY FW FH] [fence T V]*`
 #[tactic(auto, unfolding(crate::specs::Steps::queue_at))]
 fn queue(alloc: Global, draft: &Draft, line: &[u8]) -> Result<Step, LineFault>
     ensures given { GivesUnless (λ x. x) result (queue_at draft.now (words_of line.now)) }
@@ -135,7 +137,7 @@ fn queue(alloc: Global, draft: &Draft, line: &[u8]) -> Result<Step, LineFault>
     Ok(Step::Queue(name, picture, time, part, points))
 }
 
-// `cancel S [fence T V]*`, `release I [fence T V]*`
+/// `cancel S [fence T V]*`, `release I [fence T V]*`
 #[tactic(auto, unfolding(crate::specs::Steps::return_at))]
 fn returned(alloc: Global, draft: &Draft, side: Side, line: &[u8]) -> Result<Step, LineFault>
     ensures given { GivesUnless (λ x. x) result (return_at draft.now side (words_of line.now)) }
@@ -149,7 +151,7 @@ fn returned(alloc: Global, draft: &Draft, side: Side, line: &[u8]) -> Result<Ste
     }
 }
 
-// `pdetach S as B`, `cdetach I as B`
+/// `pdetach S as B`, `cdetach I as B`
 #[tactic(auto, unfolding(crate::specs::Steps::detach_at))]
 fn detach(alloc: Global, draft: &Draft, side: Side, line: &[u8]) -> Result<NamedStep, LineFault>
     ensures given { GivesUnless (λ x. x) result (detach_at draft.now side (words_of line.now)) }
@@ -171,7 +173,7 @@ fn detach(alloc: Global, draft: &Draft, side: Side, line: &[u8]) -> Result<Named
     }
 }
 
-// `pattach Q B as S`, `cattach Q B as I`
+/// `pattach Q B as S`, `cattach Q B as I`
 #[tactic(auto, unfolding(crate::specs::Steps::attach_at))]
 fn attach(alloc: Global, draft: &Draft, side: Side, line: &[u8]) -> Result<NamedStep, LineFault>
     ensures given { GivesUnless (λ x. x) result (attach_at draft.now side (words_of line.now)) }
@@ -194,7 +196,7 @@ fn attach(alloc: Global, draft: &Draft, side: Side, line: &[u8]) -> Result<Named
     }
 }
 
-// `acquire Q as I [at TIME]`
+/// `acquire Q as I [at TIME]`
 #[tactic(auto, unfolding(crate::specs::Steps::acquire_at))]
 fn acquire(alloc: Global, draft: &Draft, line: &[u8]) -> Result<NamedStep, LineFault>
     ensures given { GivesUnless (λ x. x) result (acquire_at draft.now (words_of line.now)) }
@@ -209,7 +211,7 @@ fn acquire(alloc: Global, draft: &Draft, line: &[u8]) -> Result<NamedStep, LineF
     })
 }
 
-// `signal T V`, `wait T V`
+/// `signal T V`, `wait T V`
 #[tactic(auto, unfolding(crate::specs::Steps::on_point_at))]
 fn on_point(scene: &Scene, form: PointForm, line: &[u8]) -> Result<Step, WordFault>
     ensures given { Gives (λ x. x) result (on_point_at scene.now form (words_of line.now)) }
@@ -224,7 +226,7 @@ fn on_point(scene: &Scene, form: PointForm, line: &[u8]) -> Result<Step, WordFau
     }
 }
 
-// A step that binds no new name.
+/// A step that binds no new name.
 fn unnamed(step: Step) -> NamedStep
     ensures { result ≡ plain step }
 {
@@ -234,7 +236,7 @@ fn unnamed(step: Step) -> NamedStep
     }
 }
 
-// What a reader gave of a step that binds no new name.
+/// What a reader gave of a step that binds no new name.
 fn unnamed_if_read(step: Result<Step, WordFault>) -> Result<NamedStep, LineFault>
     ensures given { (read : Result Step WordFault) → Gives (λ x. x) step read → GivesUnless (λ x. x) result (unnamed read) }
     ensures fits { (draft : DraftValue) → IfOk step (StepFits draft.scene) → IfOk result (NamedFits draft) }

@@ -1,3 +1,4 @@
+//! The readers of an actor's steps on transactions.
 ghost use Rattle.std.specs.Prelude.{◌≡◌, IfOk};
 ghost use Rattle.sf_script_words.specs.Text.{words_of};
 ghost use Rattle.sf_script_words.specs.Reading.{Gives};
@@ -13,7 +14,7 @@ use crate::parts::{moment, value};
 use sf_script_scene::Step;
 use sf_script_words::{WordFault, end, fixed, number32};
 
-// The number of a transaction.
+/// The number of a transaction.
 fn transaction(line: &[u8]) -> Result<(u32, &[u8]), WordFault>
     ensures given { Gives (λ x. (x.0, words_of x.1.now)) result (transaction_at (words_of line.now)) }
     ensures range { IfOk result (λ x. IsTransactionNumber x.0) }
@@ -21,7 +22,7 @@ fn transaction(line: &[u8]) -> Result<(u32, &[u8]), WordFault>
     number32(line, 1, 64)
 }
 
-// The number of a layer, or a token.
+/// The number of a layer, or a token.
 fn layer(line: &[u8]) -> Result<(u32, &[u8]), WordFault>
     ensures given { Gives (λ x. (x.0, words_of x.1.now)) result (layer_at (words_of line.now)) }
     ensures range { IfOk result (λ x. IsNumber x.0) }

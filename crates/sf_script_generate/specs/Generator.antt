@@ -4,6 +4,7 @@ use Rattle.std.specs.Prelude.{ℕ, ◌+◌, ◌*◌, ◌/◌, ◌%◌, ◌^◌, 
 use Rattle.std.specs.List.{range_with_len}
 use Rattle.sf_script_generate.specs.Lines.{Text, plain_line, numbered_line, fill_line, glass_line, position_line, pair_line}
 
+-- the next number of the sequence
 unfoldable pub next : ℕ → ℕ
 next x = (x * 6364136223846793005 + 1442695040888963407) % 2 ^ 64
 
@@ -20,6 +21,7 @@ draw x n k = (after_draws x (n + 1) / 2 ^ 33) % k
 abbrev pub queue_line : ℕ → Text
 queue_line q = numbered_line (codes "queue ") q (codes " 32 32")
 
+-- the lines before the pictures: display, timeline and queues
 abbrev pub first_lines : List Text
 first_lines = plain_line (codes "scene 1 160 120 16666667") ∷ plain_line (codes "timeline 1") ∷ map queue_line (range_with_len 1 4)
 
@@ -71,6 +73,7 @@ unfoldable pub parts_from : (ℕ → ℕ → List Text) → ℕ → ℕ → ℕ 
 parts_from part draws x k zero = []
 parts_from part draws x k (suc n) = part x k ++ parts_from part draws (after_draws x draws) (k + 1) n
 
+-- the lines of all pictures
 abbrev pub pictures_from : ℕ → List Text
 pictures_from x = parts_from picture_lines 9 x 1 8
 
@@ -82,6 +85,7 @@ frames_from x a frames = parts_from (λ y k. frame_lines y a) 3 x 0 frames
 abbrev pub producer_lines : ℕ → ℕ → ℕ → List Text
 producer_lines frames x a = actor_lines x a ++ frames_from (after_draws x 5) a frames
 
+-- the lines of all producers, with so many frames each
 abbrev pub producers_from : ℕ → ℕ → List Text
 producers_from x frames = parts_from (producer_lines frames) (5 + 3 * frames) x 1 4
 

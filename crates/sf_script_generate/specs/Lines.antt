@@ -15,6 +15,7 @@ pub record GrowsBy (lines : List Text) (old new : Text) : Type 0 where
 unfoldable pub hex : ℕ → Text
 hex n = digit_glyph false (n / 16) ∷ digit_glyph false (n % 16) ∷ []
 
+-- words as a line
 unfoldable pub plain_line : Text → Text
 plain_line words = words ++ 10 ∷ []
 

@@ -1,3 +1,4 @@
+//! The sequence of numbers by which one generated script differs from another.
 ghost use Rattle.std.specs.Prelude.{◌≡◌, ◌≤◌, ◌<◌};
 ghost use Rattle.sf_script_generate.specs.Generator.{after_draws, draw};
 

@@ -1,3 +1,4 @@
+//! Lines of a generated script, from words and numbers.
 ghost use Rattle.std.specs.Prelude.{◌<◌, [], ◌∷◌, OnOk, string_bytes};
 ghost use Rattle.sf_script_generate.specs.Lines.{GrowsBy, fill_line, glass_line, numbered_line, pair_line, plain_line, position_line};
 

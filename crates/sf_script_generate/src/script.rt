@@ -1,3 +1,4 @@
+//! From a number to the script of a load: `--run gen` plays it.
 ghost use Rattle.std.specs.Prelude.{◌≡◌, ◌*◌, IfOk, OnOk, string_bytes};
 ghost use Rattle.std.specs.List.{concat};
 ghost use Rattle.sf_script_generate.specs.Lines.{GrowsBy};

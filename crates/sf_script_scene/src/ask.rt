@@ -1,3 +1,4 @@
+//! What a scene has declared so far: the reader of a script asks it line by line.
 ghost use Rattle.std.specs.Prelude.{◌≡◌, length};
 ghost use Rattle.sf_script_scene.specs.Scene.{fills_so_far, has_actor, has_capture, has_display, has_hit, has_layer, has_picture, has_queue, has_timeline, last_of, steps_so_far};
 

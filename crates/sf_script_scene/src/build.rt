@@ -1,3 +1,4 @@
+//! A scene grows by one thing at a time, as the lines of a script spell it.
 ghost use Rattle.std.specs.Prelude.{◌≡◌, ◌≤◌, ◌<◌, ◌+◌, ◌++◌, ◌∷◌, [], false, length, All, IfOk};
 ghost use Rattle.sf_script_scene.specs.Limits.{IsActor, IsHeader, IsPick, IsRgba, StepFits, most_actors};
 ghost use Rattle.sf_script_scene.specs.Ranges.{IsCapture, IsDisplay, IsFill, IsHit, IsMirror, IsPicture, IsQueue, IsStack, IsTimeline};
@@ -11,7 +12,7 @@ use sf_base::{Items, NoMemory};
 use sf_picture::{Fill, Picture};
 use std::alloc::Global;
 
-// The last picture gets one more fill.
+/// The last picture gets one more fill.
 fn filled(mut pictures: Vec<Picture>, fill: Fill) -> Result<Vec<Picture>, NoMemory>
     ensures { IfOk result (λ v. v.items ≡ with_fill pictures.items fill) }
 {
@@ -23,7 +24,7 @@ fn filled(mut pictures: Vec<Picture>, fill: Fill) -> Result<Vec<Picture>, NoMemo
     Ok(pictures)
 }
 
-// The last actor gets one more step.
+/// The last actor gets one more step.
 fn stepped(mut actors: Vec<ActorScript>, step: Step) -> Result<Vec<ActorScript>, NoMemory>
     ensures { IfOk result (λ v. v.items ≡ with_step actors.items step) }
 {

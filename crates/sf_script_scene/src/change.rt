@@ -1,3 +1,4 @@
+//! What a `set` step changes in a layer.
 use sf_base::Rgba;
 
 /// What a `set` step changes in a layer. A parent is the number of a layer, 0 for the root, or

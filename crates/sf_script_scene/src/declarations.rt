@@ -1,3 +1,5 @@
+//! What a script declares under numbers, and the picks of its order.
+
 /// A declared BufferQueue, and the default size of its buffers in pixels.
 #[derive(Clone, Copy)]
 pub struct QueueDecl {

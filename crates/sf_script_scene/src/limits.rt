@@ -1,3 +1,4 @@
+//! The limits that the two versions of scripts set.
 ghost use Rattle.std.specs.Prelude.{◌≡◌};
 ghost use Rattle.sf_script_scene.specs.Limits.{most_actors, most_layers};
 

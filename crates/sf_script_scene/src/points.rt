@@ -1,3 +1,4 @@
+//! The points of a step's fence, as the script has them.
 ghost use Rattle.std.specs.Prelude.{◌≡◌, ◌++◌, ◌∷◌, [], OnOk};
 
 use sf_base::NoMemory;

@@ -1,3 +1,5 @@
+//! A scene: all that a run is played from. Its type keeps the ranges and limits that later crates
+//! rely on.
 ghost use Rattle.std.specs.Prelude.{◌≡◌, ◌*◌};
 
 use crate::declarations::{CaptureDecl, DisplayDecl, HitDecl, Pick, QueueDecl};

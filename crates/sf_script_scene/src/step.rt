@@ -1,3 +1,4 @@
+//! The steps of an actor, one form for each line that an actor can have.
 use crate::change::Change;
 use crate::points::Points;
 use sf_base::Items;

@@ -1,3 +1,4 @@
+//! The reader of a colour's eight digits.
 ghost use Rattle.std.specs.Prelude.{◌≡◌};
 ghost use Rattle.sf_script_words.specs.Text.{words_of};
 ghost use Rattle.sf_script_words.specs.Reading.{Gives};
@@ -7,6 +8,7 @@ use crate::fault::{Cause, WordFault};
 use crate::reading::{word, wrong};
 use sf_base::Rgba;
 
+/// The value of a hexadecimal digit, small or capital.
 fn hex(byte: u8) -> Option<u8>
     ensures { result ≡ hex_digit byte }
 {
@@ -18,6 +20,7 @@ fn hex(byte: u8) -> Option<u8>
     }
 }
 
+/// A channel by its two hexadecimal digits.
 #[tactic(auto, unfolding(crate::specs::Colours::hex_pair))]
 fn channel(high: u8, low: u8) -> Option<u8>
     ensures { result ≡ hex_pair high low }
@@ -28,6 +31,7 @@ fn channel(high: u8, low: u8) -> Option<u8>
     }
 }
 
+/// A colour by its eight hexadecimal digits, RRGGBBAA.
 #[tactic(auto, unfolding(crate::specs::Colours::colour_of))]
 fn colour_word(word: &[u8]) -> Option<Rgba>
     ensures { result ≡ colour_of word.now }

@@ -1,3 +1,4 @@
+//! What can be wrong with a word, and where in its line it stands.
 ghost use Rattle.std.specs.Prelude.{◌≡◌};
 ghost use Rattle.sf_script_words.specs.Causes.{number_of};
 

@@ -1,3 +1,4 @@
+//! The reader of a name, as a step binds one.
 ghost use Rattle.std.specs.Prelude.{◌≡◌};
 ghost use Rattle.std.specs.List.{list_all};
 ghost use Rattle.sf_script_words.specs.Text.{words_of};
@@ -25,6 +26,7 @@ fn are_name_bytes(bytes: &[u8]) -> bool
     bytes.iter().all(|b| is_name_byte(*b))
 }
 
+/// Whether a word is a letter and up to 15 letters, digits or underscores.
 #[tactic(auto, unfolding(crate::specs::Names::is_name))]
 fn is_name(word: &[u8]) -> bool
     ensures { result ≡ is_name word.now }

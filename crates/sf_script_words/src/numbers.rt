@@ -1,3 +1,4 @@
+//! From decimal digits to a number.
 ghost use Rattle.std.specs.Prelude.{◌≡◌};
 ghost use Rattle.sf_script_words.specs.Numbers.{decimal_of};
 

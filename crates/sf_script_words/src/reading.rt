@@ -1,3 +1,5 @@
+//! The readers of words, each of which gives a value and the rest of the line, or the fault of its
+//! word. The grammar of `sf_script` is made of these.
 ghost use Rattle.std.specs.Prelude.{◌≡◌, ◌≤◌, ◌≤ℤ◌, pos, neg_ℤ, length, IfOk, IfSome};
 ghost use Rattle.std.specs.Str.{bytes_eq};
 ghost use Rattle.sf_script_words.specs.Text.{words_of};
@@ -17,7 +19,7 @@ pub fn is(word: &[u8], text: &[u8]) -> bool
     word.len() == text.len() && word == text
 }
 
-// How many words a line has.
+/// How many words a line has.
 #[tactic(auto, using(crate::proofs::Sets::word_counts))]
 pub fn count_words(line: &[u8]) -> usize
     ensures { result ≡ length (words_of line.now) }
@@ -100,7 +102,7 @@ pub fn number32(line: &[u8], low: u32, high: u32) -> Result<(u32, &[u8]), WordFa
     Ok((n as u32, rest))
 }
 
-// The number down to `-below` and up to `above` that a word gives.
+/// The number down to `-below` and up to `above` that a word gives.
 #[tactic(auto, unfolding(crate::specs::Numbers::signed_of))]
 fn signed_within(word: &[u8], below: u32, above: u32) -> Option<i32>
     requires low { below ≤ 2147483648 }

@@ -1,3 +1,4 @@
+//! Cuts a script into lines and a line into words.
 ghost use Rattle.std.specs.Prelude.{◌≡◌, ◌<◌, ◌≤◌, ◌∷◌, [], length, drop, IfSome, ◌+◌, MatchOption, not, ◌==◌};
 ghost use Rattle.std.specs.List.{prefix_len};
 ghost use Rattle.sf_script_words.specs.Text.{is_blank, lines_of, words_of, trimmed};
@@ -8,7 +9,7 @@ fn is_blank_byte(byte: u8) -> bool
     byte == b' ' || byte == b'\t'
 }
 
-// How many blanks the text begins with.
+/// How many blanks the text begins with.
 fn blank_length(text: &[u8]) -> usize
     ensures count { result ≡ prefix_len is_blank text.now }
     ensures within { result ≤ length text.now }
@@ -16,7 +17,7 @@ fn blank_length(text: &[u8]) -> usize
     text.iter().take_while(|b| is_blank_byte(**b)).count()
 }
 
-// How long the word is that the text begins with.
+/// How long the word is that the text begins with.
 fn word_length(text: &[u8]) -> usize
     ensures count { result ≡ prefix_len (λ b. not (is_blank b)) text.now }
     ensures within { result ≤ length text.now }
@@ -24,7 +25,7 @@ fn word_length(text: &[u8]) -> usize
     text.iter().take_while(|b| !is_blank_byte(**b)).count()
 }
 
-// How long the first line is.
+/// How long the first line is.
 fn line_length(text: &[u8]) -> usize
     ensures count { result ≡ prefix_len (λ b. not (b == 10)) text.now }
     ensures within { result ≤ length text.now }
@@ -44,7 +45,7 @@ pub fn next_word(line: &[u8]) -> Option<(&[u8], &[u8])>
     Some(start.split_at(word_length(start)))
 }
 
-// A text behind its first byte.
+/// A text behind its first byte.
 fn without_first(text: &[u8]) -> &[u8]
     ensures { result.now ≡ drop 1 text.now }
 {

@@ -28,7 +28,7 @@ use Rattle.sf_slots.proofs.Sound.{first_alone, last_alone, first_is, IsSound-kep
 use Rattle.sf_slots.proofs.Tells.{Tells}
 use Rattle.sf_slots.proofs.TellsGone.{Tells-along, happening-append}
 use Rattle.sf_slots.proofs.TellsItems.{Tells-kept_back, Tells-handed_over, Tells-appended, Tells-replaced, others_first, others_last}
-use Rattle.sf_slots.proofs.Going.{told_tells, go_on, not_refused, own_unmet, lent_there}
+use Rattle.sf_slots.proofs.HistoryGoesOn.{told_tells, go_on, not_refused, own_unmet, lent_there}
 
 last_plain : {R : Type 0} (items : List (Item R)) → last_item (map plain_item items) ≡ option_map plain_item (last_in items)
 last_plain {R} items =

@@ -18,7 +18,7 @@ use Rattle.sf_slots.specs.Queue.{Queue, IsSound, told_of, slot_in, marked, retur
 use Rattle.sf_slots.specs.Replies.{Refusal, first_met, refusal_of, is_taken, has_size, size_asked, dequeued_from}
 use Rattle.sf_slots.specs.Tells.{Continues}
 use Rattle.sf_slots.proofs.Tells.{Tells-lent, Tells-lent_new, Tells-taken_new, Tells-marked, Tells-returned, Tells-cleared}
-use Rattle.sf_slots.proofs.Going.{told_tells, go_on, not_refused, unmet, own_unmet, lent_there, taken_there, lent_is_out, taken_is_out}
+use Rattle.sf_slots.proofs.HistoryGoesOn.{told_tells, go_on, not_refused, unmet, own_unmet, lent_there, taken_there, lent_is_out, taken_is_out}
 
 pub Continues-Request : {R : Type 0} (q : Queue R) (caller : ActorId) (lease : WriteToken) → refusal_of (told_of q) caller (call.Request lease) ≡ None → Continues q (marked q lease.slot.0) caller (call.Request lease) (reply.Requested lease.held)
 Continues-Request {R} q caller lease none =

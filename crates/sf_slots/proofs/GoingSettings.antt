@@ -18,7 +18,7 @@ use Rattle.sf_slots.specs.Tells.{IsToldBy, Continues}
 use Rattle.sf_slots.proofs.Tells.{Tells}
 use Rattle.sf_slots.proofs.TellsGone.{frames-gone, buffers-gone, happening-append, Tells-along, Tells-configured, configured_same}
 use Rattle.sf_slots.proofs.TellsGivenUp.{Tells-given_up, Tells-vacant, settings-vacated}
-use Rattle.sf_slots.proofs.Going.{told_tells, go_on, not_refused}
+use Rattle.sf_slots.proofs.HistoryGoesOn.{told_tells, go_on, not_refused}
 
 -- other settings with as many usable slots change nothing else
 Tells-settings : {R : Type 0} (q : Queue R) (es : List Event) (settings : Settings) → Tells q es → usable settings ≡ usable q.settings → settings.frames ≡ q.settings.frames → settings.buffers ≡ q.settings.buffers → Tells (configured q settings) es

@@ -6,12 +6,12 @@ pub mod Tells
 pub mod TellsGone
 pub mod TellsItems
 pub mod TellsGivenUp
-pub mod Going
+pub mod HistoryGoesOn
 pub mod GoingLeases
 pub mod GoingSettings
 pub mod GoingItems
 pub mod RefusalTable
 pub mod Chains
 pub mod FreeSlots
-pub mod Configured
+pub mod SettingsKept
 pub mod Counts

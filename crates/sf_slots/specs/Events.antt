@@ -13,6 +13,7 @@ pub data Maker : Type 0 where
   Producer : Maker
   Consumer : Maker
 
+-- what may happen to a slot
 pub data Event : Type 0 where
   -- a new buffer of this width and height comes into the slot
   Make : ℕ → ℕ → ℕ → Maker → Event
@@ -101,6 +102,7 @@ pub data Last : Type 0 where
   Waiting : PlainItem → Last
   Elsewhere : ℕ → Last
 
+-- the slot that left or came back
 abbrev pub slot_of : Last → ℕ
 slot_of (Returned s) = s
 slot_of (Waiting item) = item.slot.0
@@ -120,10 +122,12 @@ last_of_each (Back t fence ∷ earlier) = apart_from t (last_of_each earlier) ++
 last_of_each (Gone t ∷ earlier) = apart_from t (last_of_each earlier) ++ Elsewhere t ∷ []
 last_of_each (_ ∷ earlier) = last_of_each earlier
 
+-- the slot, where it came back
 abbrev pub returned_slot : Last → Option ℕ
 returned_slot (Returned s) = Some s
 returned_slot _ = None
 
+-- the item, where one waits
 abbrev pub waiting_item : Last → Option PlainItem
 waiting_item (Waiting item) = Some item
 waiting_item _ = None

@@ -27,23 +27,28 @@ abbrev pub last_set : {A : Type 0} → (Entry → Option A) → A → List Entry
 last_set sets first [] = first
 last_set sets first (entry ∷ earlier) = if was_done entry.reply then unwrap_or (sets entry) (last_set sets first earlier) else last_set sets first earlier
 
+-- the consumer's limit that a call sets
 abbrev pub sets_max_acquired : PlainCall → Option ℕ
 sets_max_acquired (call.MaxAcquired n) = Some n
 sets_max_acquired _ = None
 
+-- the producer's limit that a call sets
 abbrev pub sets_max_dequeued : PlainCall → Option ℕ
 sets_max_dequeued (call.MaxDequeued n) = Some n
 sets_max_dequeued _ = None
 
+-- the mode that a call sets
 abbrev pub sets_asynchronous : PlainCall → Option Bool
 sets_asynchronous (call.Async on) = Some on
 sets_asynchronous _ = None
 
+-- the producer that a call sets, or that there is none
 abbrev pub sets_connected : ActorId → PlainCall → Option (Option ActorId)
 sets_connected caller call.Connect = Some (Some caller)
 sets_connected caller call.Disconnect = Some None
 sets_connected caller _ = None
 
+-- the call gives the queue up
 abbrev pub sets_abandoned : PlainCall → Option Bool
 sets_abandoned call.Abandon = Some true
 sets_abandoned _ = None
@@ -54,21 +59,27 @@ sets_queued (call.Queue lease picture width height time crop fence) = Some true
 sets_queued call.Connect = Some false
 sets_queued _ = None
 
+-- how many buffers the consumer may hold, as the last call set it, 1 at first
 abbrev pub max_acquired : List Entry → ℕ
 max_acquired = last_set (λ entry. sets_max_acquired entry.call) 1
 
+-- how many buffers the producer may hold, as the last call set it, 1 at first
 abbrev pub max_dequeued : List Entry → ℕ
 max_dequeued = last_set (λ entry. sets_max_dequeued entry.call) 1
 
+-- a new frame takes the place of a waiting one, as the last call set it; at first it does not
 abbrev pub asynchronous : List Entry → Bool
 asynchronous = last_set (λ entry. sets_asynchronous entry.call) false
 
+-- the producer, as the last call set it; at first there is none
 abbrev pub connected : List Entry → Option ActorId
 connected = last_set (λ entry. sets_connected entry.caller entry.call) None
 
+-- the queue was given up
 abbrev pub abandoned : List Entry → Bool
 abandoned = last_set (λ entry. sets_abandoned entry.call) false
 
+-- a frame was queued since the last connect
 abbrev pub queued : List Entry → Bool
 queued = last_set (λ entry. sets_queued entry.call) false
 
@@ -84,6 +95,7 @@ no_longer_usable earlier count = range_with_len count (usable_with (max_acquired
 abbrev pub leaving : List Event → List Entry → ℕ → List Event
 leaving before earlier count = map Gone (filter (λ s. same_state (state_after before s) Free) (no_longer_usable earlier count))
 
+-- the slot is free or lent
 abbrev pub is_back_or_lent : SlotState → Bool
 is_back_or_lent Free = true
 is_back_or_lent Dequeued = true
@@ -93,6 +105,7 @@ is_back_or_lent _ = false
 abbrev pub kept_back : PlainItem → Event
 kept_back item = Back item.slot.0 None
 
+-- the slot comes back without a fence, if there is one
 abbrev pub back_if : Option ℕ → List Event
 back_if None = []
 back_if (Some s) = Back s None ∷ []

@@ -38,6 +38,7 @@ is_producer (Some producer) caller = producer.0 == caller.0
 abbrev pub same_buffer : Held → Held → Bool
 same_buffer a b = (a.number == b.number) && ((a.width == b.width) && (a.height == b.height))
 
+-- the buffer is there and is this one
 abbrev pub is_buffer : Option Held → Held → Bool
 is_buffer None buffer = false
 is_buffer (Some held) buffer = same_buffer held buffer
@@ -87,6 +88,7 @@ abbrev pub dropped_with : ℕ → PlainItem → List PlainItem → ℕ
 dropped_with expected front [] = 0
 dropped_with expected front (second ∷ more) = if is_some front.time && has_just_come expected second then dropped_with expected second more + 1 else 0
 
+-- how many items in front are dropped for this present time
 abbrev pub dropped_count : ℕ → List PlainItem → ℕ
 dropped_count expected [] = 0
 dropped_count expected (front ∷ more) = dropped_with expected front more
@@ -100,6 +102,7 @@ is_due expected item = (expected == 0) || (nat_le (time_of item) expected || nat
 abbrev pub front_after_drops : ℕ → Told → Option PlainItem
 front_after_drops expected told = slice_get told.items (dropped_count expected told.items)
 
+-- an item is due, if there is one
 abbrev pub is_due_if_there : ℕ → Option PlainItem → Bool
 is_due_if_there expected None = true
 is_due_if_there expected (Some item) = is_due expected item
@@ -212,6 +215,7 @@ given_by told (call.Acquire expected) = acquired_item (dropped_count expected to
 given_by told (call.AttachRead held) = reply.Attached (record { 0 = unwrap_or (slot_for false told) 0 }) (next_buffer told held.width held.height)
 given_by told _ = reply.Done
 
+-- the refusal, where there is one, else this reply
 abbrev pub refused_or : Option QStatus → PlainReply → PlainReply
 refused_or None given = given
 refused_or (Some cause) given = reply.Refused cause

@@ -25,6 +25,7 @@ unused = record { state = Free; held = None; requested = false; frame = 0; fence
 abbrev pub slot_at : Told → ℕ → Slot
 slot_at told s = slice_index_or told.slots s unused
 
+-- two slots are in one state
 abbrev pub same_state : SlotState → SlotState → Bool
 same_state Free Free = true
 same_state Dequeued Dequeued = true
@@ -77,6 +78,7 @@ slot_for false told = option_or (lowest_bare told) (first_freed told)
 abbrev pub last_item : List PlainItem → Option PlainItem
 last_item items = slice_get items (length items - 1)
 
+-- the slot of an item that gives way to a new one
 abbrev pub slot_if_droppable : Option PlainItem → Option ℕ
 slot_if_droppable None = None
 slot_if_droppable (Some item) = if item.droppable then Some item.slot.0 else None

@@ -1,3 +1,5 @@
+//! Calls on a queue and their replies as plain data, without rights: what a queue's history keeps,
+//! and what contracts say of calls.
 use crate::item::PlainItem;
 use crate::slot::Held;
 use sf_base::{ActorId, Fence, QStatus, Rect, SlotId};

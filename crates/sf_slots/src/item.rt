@@ -1,3 +1,4 @@
+//! A queued frame between its producer and its consumer, with and without the right to its pixels.
 use crate::slot::Held;
 use sf_base::{Fence, Rect, SlotId};
 

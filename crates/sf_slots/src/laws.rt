@@ -1,3 +1,4 @@
+//! Laws about queues and their histories, called for their clauses alone.
 ghost use Rattle.std.specs.Prelude.{◌≡◌, ℕ, Bool, List, [], Some, is_some};
 ghost use Rattle.std.specs.List.{Contains};
 ghost use Rattle.sf_base.specs.declared.ids.ActorId.{ActorId};

@@ -1,3 +1,5 @@
+//! How many slots may be used: a free one is found, limits and mode are set, slots outside lose
+//! their buffers, and the queue is given up.
 ghost use Rattle.std.specs.Prelude.{◌≡◌, ◌<◌, ◌≤◌, ◌-◌, ℕ, Option, None, IfSome, is_some, false, length, map, slice_get, take, drop, not, ◌^◌};
 ghost use Rattle.std.specs.List.{position, range_with_len, list_any};
 ghost use Rattle.std.specs.Option.{option_map};
@@ -27,6 +29,7 @@ fn unmark(slot: &mut Slot)
     slot.requested = false;
 }
 
+/// Forgets of all 64 slots that their buffers were requested.
 fn unmark_slots(slots: &mut Vec<Slot>)
     requires { length slots.old.items ≡ 64 }
     ensures { slots.new.items ≡ map unmarked slots.old.items }
@@ -36,6 +39,7 @@ fn unmark_slots(slots: &mut Vec<Slot>)
     }
 }
 
+/// Takes the buffers out of all 64 slots.
 fn empty_slots(slots: &mut Vec<Slot>)
     requires { length slots.old.items ≡ 64 }
     ensures { slots.new.items ≡ map emptied slots.old.items }
@@ -45,6 +49,7 @@ fn empty_slots(slots: &mut Vec<Slot>)
     }
 }
 
+/// Lets the rights of all 64 slots go.
 fn drop_rights<R: Drop>(rights: &mut Vec<Option<R>>)
     requires { length rights.old.items ≡ 64 }
     ensures { rights.new.items ≡ map (λ (right : Option R). None) rights.old.items }

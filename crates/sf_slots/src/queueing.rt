@@ -1,3 +1,5 @@
+//! The line of frames that wait for the consumer: a frame enters behind the others or in the place
+//! of the last one, and leaves in front.
 ghost use Rattle.std.specs.Prelude.{◌≡◌, ◌<◌, ◌≤◌, ◌+◌, ◌-◌, ◌^◌, [], ◌∷◌};
 ghost use Rattle.std.specs.Prelude.{◌++◌, ℕ, All, IsFalse, length, slice_get, slice_set, slice_index_or, drop, unwrap_or};
 ghost use Rattle.std.specs.Option.{option_copied, option_map};

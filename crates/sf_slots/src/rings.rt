@@ -1,3 +1,4 @@
+//! Moves of one slot or one right in the lists that a queue keeps.
 ghost use Rattle.std.specs.Prelude.{◌≡◌, ◌<◌, ◌≤◌, ◌∷◌, ◌++◌, [], length, slice_index_or, slice_set};
 ghost use Rattle.circular_buffer.specs.Buffer.{buffer};
 ghost use Rattle.sf_slots.specs.Told.{unused};

@@ -1,3 +1,4 @@
+//! A queue's limits, mode, producer and counters.
 ghost use Rattle.std.specs.Prelude.{◌≡◌, ◌<◌, ◌≤◌, ◌^◌};
 
 use sf_base::ActorId;

@@ -1,3 +1,5 @@
+//! What a record shows of a call in a queue's history: the numbers of its kind, status, slot and
+//! frame.
 ghost use Rattle.std.specs.Prelude.{◌≡◌};
 
 use crate::calls::{Entry, PlainCall, PlainReply};

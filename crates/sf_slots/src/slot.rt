@@ -1,3 +1,4 @@
+//! What is known of one slot: where its buffer is, which buffer that is, and its frame.
 ghost use Rattle.std.specs.Prelude.{◌≡◌};
 
 use sf_base::Fence;

@@ -1,3 +1,5 @@
+//! The whole of a queue: slots, waiting items, freed buffers and settings, with the moves of one
+//! slot. The producer's calls in `sf_queue` and the consumer's in `sf_consume` are made of these.
 ghost use Rattle.std.specs.Prelude.{◌≡◌, ◌<◌, ◌≤◌, ◌+◌, [], ◌∷◌, ◌++◌, IfOk, IsSome};
 ghost use Rattle.std.specs.Prelude.{length, map, replicate, take, slice_index_or, true, false, ◌-◌, ◌^◌, count_by};
 ghost use Rattle.sf_slots.specs.declared.slot.SlotState.TheVariants as state;

@@ -12,7 +12,7 @@ use Rattle.atomic_table.specs.Table.{State, Me, step, keeps, opening, Allows, Sp
 use Rattle.atomic_table.proofs.Lists.{at_set, set_here, set_else, at_snoc, at_longer}
 use Rattle.sf_times.specs.declared.protocol.Knows.{Knows}
 use Rattle.sf_base.specs.Points.{greatest, value_at}
-use Rattle.sf_times.specs.Rule.{WasSignalled, WasReached, live_of, Fits, Kept, Loads, Audits, Raises}
+use Rattle.sf_times.specs.inner.Rule.{WasSignalled, WasReached, live_of, Fits, Kept, Loads, Audits, Raises}
 use Rattle.sf_times.specs.Seats.{opened, spent, lending, split_off, joined, loaded, raised, IsAlone, OnlyOwnSignals}
 use Rattle.sf_base.proofs.Lists.{inside, same_at, sum_set, two_le}
 use Rattle.sf_base.proofs.PointLemmas.{value_here, value_else, greatest-append, greatest-last, has_le}

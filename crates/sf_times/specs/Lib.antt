@@ -1,3 +1,3 @@
-pub mod Rule
 pub mod Seats
 pub mod Views
+pub mod inner

@@ -27,7 +27,7 @@ pub struct Knows {
 pub struct CountersRise;
 
 impl TableRule<(), Knows, ()> for CountersRise {
-    ghost use Rattle.sf_times.specs.Rule.{Kept};
+    ghost use Rattle.sf_times.specs.inner.Rule.{Kept};
     ghost use Rattle.sf_times.specs.Seats.{opened};
 
     ghost holds = { λ _. Kept };
@@ -39,7 +39,7 @@ impl TableRule<(), Knows, ()> for CountersRise {
 pub struct Load;
 
 impl Play<(), Knows> for Load {
-    ghost use Rattle.sf_times.specs.Rule.{Loads};
+    ghost use Rattle.sf_times.specs.inner.Rule.{Loads};
 
     ghost then = { Loads };
 }
@@ -49,7 +49,7 @@ impl Play<(), Knows> for Load {
 pub struct Audit;
 
 impl Play<(), Knows> for Audit {
-    ghost use Rattle.sf_times.specs.Rule.{Audits};
+    ghost use Rattle.sf_times.specs.inner.Rule.{Audits};
 
     ghost then = { Audits };
 }
@@ -58,7 +58,7 @@ impl Play<(), Knows> for Audit {
 pub struct Signal;
 
 impl Play<(), Knows> for Signal {
-    ghost use Rattle.sf_times.specs.Rule.{Raises};
+    ghost use Rattle.sf_times.specs.inner.Rule.{Raises};
 
     ghost then = { Raises };
 }

@@ -1,3 +1,5 @@
+//! One thread's seat at the timelines, through which an actor signals points and a vsync observes
+//! them.
 ghost use Rattle.std.specs.Prelude.{◌≡◌, ℕ, ◌-◌, ◌≤◌, true, slice_index};
 ghost use Rattle.sf_base.specs.Points.{greatest, points_from};
 ghost use Rattle.sf_times.specs.Seats.{lending, split_off, joined, loaded, all_loaded, raised, IsAlone, OnlyOwnSignals};

@@ -1,3 +1,4 @@
+//! The 64 counters themselves, which the threads of a run share.
 ghost use Rattle.std.specs.Prelude.{◌≡◌, IfOk};
 ghost use Rattle.sf_times.specs.Seats.{opened};
 

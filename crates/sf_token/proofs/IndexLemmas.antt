@@ -12,7 +12,7 @@ use Rattle.sf_base.specs.declared.ids.TokenId.{TokenId}
 use Rattle.sf_txn.specs.Transactions.{without_first}
 use Rattle.sf_txn.specs.declared.lease.Lease.{Ghosts}
 use Rattle.sf_token.specs.Index.{Becomes, IsIndex, first_in, numbers_in, numbers_of, queue_with}
-use Rattle.sf_token.specs.Looking.{IsLookedArrival}
+use Rattle.sf_token.specs.Loads.{IsLookedArrival}
 use Rattle.sf_token.specs.Pending.{Arrival, AreTokens, IsRisingFrom, has_number, is_of}
 use Rattle.sf_token.proofs.StoreLemmas.{tied}
 

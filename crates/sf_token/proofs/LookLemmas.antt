@@ -12,9 +12,9 @@ use Rattle.sf_txn.specs.Buffers.{Buffer}
 use Rattle.sf_txn.specs.Leases.{IsEyeAfter, IsShownTo}
 use Rattle.sf_txn.specs.declared.lease.Lease.{Ghosts}
 use Rattle.sf_txn.proofs.BufferLooks.{eye_then, shown_earlier, shown_later}
-use Rattle.sf_token.specs.Looking.{AllLeases, IsLookedArrival, looks_at, looks_of}
+use Rattle.sf_token.specs.Loads.{AllLeases, IsLookedArrival, looks_at, looks_of}
 use Rattle.sf_token.specs.Pending.{Arrival, IsRisingFrom}
-use Rattle.sf_token.specs.Rooms.{AreLooked, Fits, IsLookedSlot}
+use Rattle.sf_token.specs.inner.Rooms.{AreLooked, Fits, IsLookedSlot}
 use Rattle.sf_token.specs.Slots.{picked}
 use Rattle.sf_token.specs.declared.looking.Room.{Room}
 use Rattle.sf_token.specs.declared.looks.Looks.{Looks}

@@ -15,7 +15,7 @@ use Rattle.std.specs.declared.cmp.Ordering.TheVariants.{Greater, Less}
 use Rattle.slab.specs.Slab.{Slab, Updates, get}
 use Rattle.sf_txn.specs.Transactions.{without_first}
 use Rattle.sf_txn.specs.declared.lease.Lease.{Ghosts}
-use Rattle.sf_token.specs.Looking.{IsLookedArrival}
+use Rattle.sf_token.specs.Loads.{IsLookedArrival}
 use Rattle.sf_token.specs.Pending.{Arrival, has_number}
 use Rattle.sf_token.specs.Slots.{AreFiled, number_in, picked}
 use Rattle.sf_token.proofs.SlotLemmas.{kept_of, picked-same, picked-snoc}

@@ -1,3 +1,5 @@
+//! The arrivals of transactions as an object whose calls have a history: clients send, and the
+//! compositor takes what came since it last did.
 ghost use Rattle.std.specs.Prelude.{◌≡◌, [], IfOk, map};
 ghost use Rattle.sf_token.specs.Arrivals.{entry_of, sent};
 

@@ -1,3 +1,5 @@
+//! Which transactions are pending for which token, by their numbers, so that the first of a token
+//! is found without a look at the others.
 ghost use Rattle.std.specs.Prelude.{◌≡◌, ◌<◌, ◌++◌, ◌∷◌, [], ℕ, None, OnErr, OnOk, IfOk, drop, map, option_copied};
 ghost use Rattle.std.specs.BTreeMap.{IsOrdered, keys};
 ghost use Rattle.std.specs.Option.{option_and_then, option_map};
@@ -14,7 +16,7 @@ pub struct Index {
     pub queues: BTreeMap<u32, VecDeque<u32>>,
 }
 
-// The tokens of these numbers, rising.
+/// The tokens of these numbers, rising.
 fn listed<V>(alloc: Global, queues: &BTreeMap<u32, V>) -> Result<Vec<TokenId>, NoMemory>
     ensures tokens { IfOk result (λ tokens. tokens.items ≡ map (λ n. record { 0 = n }) (keys queues.now)) }
     ensures rising { IfOk result (λ _. IsOrdered nat_cmp queues.now) }
@@ -24,7 +26,7 @@ fn listed<V>(alloc: Global, queues: &BTreeMap<u32, V>) -> Result<Vec<TokenId>, N
 }
 
 impl Index {
-    // No token has a queue.
+    /// No token has a queue.
     pub fn new(alloc: Global) -> Index
         ensures { (token : ℕ) → queue_of result.queues token ≡ None }
     {
@@ -34,7 +36,7 @@ impl Index {
         }
     }
 
-    // The first number of a token.
+    /// The first number of a token.
     pub fn first(&self, token: TokenId) -> Option<u32>
         ensures { result ≡ first_in (queue_of self.now.queues token.0) }
     {
@@ -42,7 +44,7 @@ impl Index {
         queue.front().copied()
     }
 
-    // The tokens that have a queue, rising.
+    /// The tokens that have a queue, rising.
     pub fn tokens(&self) -> Result<Vec<TokenId>, NoMemory>
         ensures tokens { IfOk result (λ tokens. tokens.items ≡ map (λ n. record { 0 = n }) (keys self.now.queues)) }
         ensures rising { IfOk result (λ _. IsOrdered nat_cmp self.now.queues) }
@@ -50,7 +52,7 @@ impl Index {
         listed(self.alloc, &self.queues)
     }
 
-    // Takes memory for one number more of a token. One that had no queue has an empty one then.
+    /// Takes memory for one number more of a token. One that had no queue has an empty one then.
     pub fn reserve(&mut self, token: TokenId) -> Result<(), NoMemory>
         ensures room { OnOk result (HasRoomAt self.new.queues token.0) }
         ensures ok { OnOk result (Becomes (queue_of self.old.queues) (queue_of self.new.queues) token.0
@@ -66,7 +68,7 @@ impl Index {
         Ok(())
     }
 
-    // A number goes to the end of a token's queue, which has room for it.
+    /// A number goes to the end of a token's queue, which has room for it.
     pub fn push(&mut self, token: TokenId, number: u32)
         requires { HasRoomAt self.old.queues token.0 }
         ensures { Becomes (queue_of self.old.queues) (queue_of self.new.queues) token.0
@@ -78,7 +80,7 @@ impl Index {
         }
     }
 
-    // The first number of a token goes, and its queue with its last number.
+    /// The first number of a token goes, and its queue with its last number.
     pub fn pop(&mut self, token: TokenId) -> Option<u32>
         ensures gone { result ≡ first_in (queue_of self.old.queues token.0) }
         ensures left { Becomes (queue_of self.old.queues) (queue_of self.new.queues) token.0
@@ -89,7 +91,7 @@ impl Index {
         number
     }
 
-    // The first number of a token goes.
+    /// The first number of a token goes.
     fn take_first(&mut self, token: TokenId) -> Option<u32>
         ensures gone { result ≡ first_in (queue_of self.old.queues token.0) }
         ensures left { Becomes (queue_of self.old.queues) (queue_of self.new.queues) token.0
@@ -101,7 +103,7 @@ impl Index {
         }
     }
 
-    // A queue without numbers goes.
+    /// A queue without numbers goes.
     pub fn close(&mut self, token: TokenId)
         ensures { Becomes (queue_of self.old.queues) (queue_of self.new.queues) token.0
             (queue_with (numbers_in (queue_of self.old.queues token.0))) }

@@ -1,11 +1,13 @@
+//! One look at each buffer of each pending transaction, at the begin of a vsync, with its room made
+//! before the first look.
 ghost use Rattle.std.specs.Prelude.{◌≡◌, ◌≢◌, ◌≤◌, ◌+◌, ℕ, [], IfOk, IsSome, length, map, nat_eq};
 ghost use Rattle.std.specs.List.{All, AllByRecursion, IsDistinct};
 ghost use Rattle.std.specs.Vec.{vec_capacity, vec_len};
 ghost use Rattle.std.specs.BTreeMap.{values};
 ghost use Rattle.sf_txn.specs.Leases.{IsEyeAfter, IsShownTo};
 ghost use Rattle.slab.specs.Slab.{get};
-ghost use Rattle.sf_token.specs.Looking.{IsLookedArrival, looks_at};
-ghost use Rattle.sf_token.specs.Rooms.{AreLooked, Fits, HasRoom, IsLookedSlot};
+ghost use Rattle.sf_token.specs.Loads.{IsLookedArrival, looks_at};
+ghost use Rattle.sf_token.specs.inner.Rooms.{AreLooked, Fits, HasRoom, IsLookedSlot};
 
 use crate::arrived::Arrived;
 use crate::looks::Looks;
@@ -22,7 +24,7 @@ pub struct Room {
     pub drawn: Vec<bool>,
 }
 
-// Room for what looks at one key's transaction show.
+/// Room for what looks at one key's transaction show.
 fn room_for<L: Lease + Drop>(
     alloc: Global,
     slots: &Slab<Arrived<L>>,
@@ -55,7 +57,7 @@ pub fn rooms_for<L: Lease + Drop>(
     Ok(rooms)
 }
 
-// Looks at a transaction's buffers, and tells what the looks showed.
+/// Looks at a transaction's buffers, and tells what the looks showed.
 fn look_at<L: Lease + Drop>(
     arrived: &mut Arrived<L>,
     eye: &mut L::Eye,
@@ -76,7 +78,7 @@ fn look_at<L: Lease + Drop>(
     }
 }
 
-// Looks at what a key has.
+/// Looks at what a key has.
 fn look_in<L: Lease + Drop>(slots: &mut Slab<Arrived<L>>, eye: &mut L::Eye, room: Room) -> Looks
     requires room { HasRoom (get slots.old room.key) (vec_len room.drawn) (vec_capacity room.drawn) }
     requires fits { Fits (L.fits (L.mark eye.old)) (get slots.old room.key) }

@@ -1,3 +1,4 @@
+//! What the looks at a pending transaction's buffers showed.
 use sf_base::Items;
 
 /// What one look at each buffer of a pending transaction showed, in the order of its buffers:

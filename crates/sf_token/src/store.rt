@@ -1,8 +1,9 @@
+//! The pending transactions themselves, found by their numbers.
 ghost use Rattle.std.specs.Prelude.{◌≡◌, ◌<◌, [], ◌∷◌, ◌++◌, IfOk, IfErr, OnOk, OnErr, find, option_copied};
 ghost use Rattle.std.specs.List.{AllByRecursion, AllZip};
 ghost use Rattle.sf_txn.specs.Leases.{IsEyeAfter, IsShownTo};
 ghost use Rattle.sf_txn.specs.Transactions.{without_first};
-ghost use Rattle.sf_token.specs.Looking.{AllLeases, IsLookedArrival, looks_of};
+ghost use Rattle.sf_token.specs.Loads.{AllLeases, IsLookedArrival, looks_of};
 ghost use Rattle.sf_token.specs.Pending.{has_number};
 
 use crate::arrived::Arrived;
@@ -50,7 +51,7 @@ impl<L: Lease + Drop> Store<L> {
         }
     }
 
-    // The transaction of a number.
+    /// The transaction of a number.
     pub fn get(&self, number: u32) -> Option<&Arrived<L>>
         ensures { option_copied result ≡ find (has_number number) self.now }
     {
@@ -60,7 +61,7 @@ impl<L: Lease + Drop> Store<L> {
         }
     }
 
-    // A transaction comes, of a number above all others. Want of memory changes nothing.
+    /// A transaction comes, of a number above all others. Want of memory changes nothing.
     pub fn push(&mut self, arrived: Arrived<L>) -> Result<(), (NoMemory, Arrived<L>)>
         requires { AllByRecursion (λ earlier. earlier.number < arrived.number) self.old }
         ensures ok { OnOk result (self.new ≡ self.old ++ arrived ∷ []) }
@@ -78,7 +79,7 @@ impl<L: Lease + Drop> Store<L> {
         Ok(())
     }
 
-    // The transaction of a number goes.
+    /// The transaction of a number goes.
     pub fn remove(&mut self, number: u32) -> Option<Arrived<L>>
         ensures gone { result ≡ find (has_number number) self.old }
         ensures left { self.new ≡ without_first (has_number number) self.old }
@@ -89,7 +90,7 @@ impl<L: Lease + Drop> Store<L> {
         }
     }
 
-    // Looks once at each buffer of each transaction, in order, after its memory is taken.
+    /// Looks once at each buffer of each transaction, in order, after its memory is taken.
     pub fn look(&mut self, eye: &mut L::Eye) -> Result<Vec<Looks>, NoMemory>
         requires fits { AllLeases (L.fits (L.mark eye.old)) self.old }
         ensures looked { OnOk result (AllZip (IsLookedArrival L.Lease) self.old self.new) }

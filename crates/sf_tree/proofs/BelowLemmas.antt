@@ -12,7 +12,7 @@ use Rattle.sf_layer.specs.declared.parent.Parent.{Parent}
 use Rattle.sf_layer.specs.declared.parent.Parent.TheVariants as parent
 use Rattle.sf_tree.specs.DrawOrder.{draw, draw_parent, drawn_with, is_same}
 use Rattle.sf_tree.specs.Kept.{IsDistinct}
-use Rattle.sf_tree.specs.Known.{AtPlaces, IsBelow, is_on_side}
+use Rattle.sf_tree.specs.inner.Known.{AtPlaces, IsBelow, is_on_side}
 use Rattle.sf_tree.specs.Layers.{index_of}
 use Rattle.sf_tree.proofs.Lookups.{is_numbered-place}
 use Rattle.sf_tree.proofs.Places.{index_of_same}

@@ -9,7 +9,7 @@ use Rattle.sf_layer.specs.declared.layer.Layer.{Layer}
 use Rattle.sf_layer.specs.declared.op.Op.{Op}
 use Rattle.sf_layer.specs.declared.op.Op.TheVariants as op
 use Rattle.sf_tree.specs.Changes.{with_layer, edited, edited_layer, fits_kind, made_relative, reparented}
-use Rattle.sf_tree.specs.ChangeAnswers.{draw_cause, IsChange, parent_cause, Settles}
+use Rattle.sf_tree.specs.inner.ChangeAnswers.{draw_cause, IsChange, parent_cause, Settles}
 use Rattle.sf_tree.specs.Kept.{IsDistinct}
 use Rattle.sf_tree.specs.Layers.{index_of, layer_of, has_layer, has_parent}
 use Rattle.sf_tree.specs.Steps.{parent_steps, all_steps, reaches_itself}

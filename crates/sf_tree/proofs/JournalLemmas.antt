@@ -5,7 +5,7 @@ use Rattle.sf_layer.specs.declared.op.Op.{Op}
 use Rattle.sf_tree.specs.Changes.{after_from, changed}
 use Rattle.sf_layer.specs.declared.layer.Layer.{Layer}
 use Rattle.sf_tree.specs.declared.journal.Undo.{Undo}
-use Rattle.sf_tree.specs.Journal.{back, CanGoBack, CanUndo, undone}
+use Rattle.sf_tree.specs.inner.Journal.{back, CanGoBack, CanUndo, undone}
 
 pub back-push : (log : List Undo) (last : Undo) (layers : List Layer) → back (log ++ last ∷ []) layers ≡ back log (undone last layers)
 back-push [] last layers = refl

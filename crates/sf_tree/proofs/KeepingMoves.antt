@@ -12,7 +12,7 @@ use Rattle.sf_layer.specs.declared.layer.Layer.{Layer}
 use Rattle.sf_layer.specs.declared.parent.Parent.{Parent}
 use Rattle.sf_layer.specs.declared.parent.Parent.TheVariants as parent
 use Rattle.sf_tree.specs.Kept.{IsLayerInRange, IsOfKind, IsRanked, IsTied, IsTree}
-use Rattle.sf_tree.specs.Known.{IsBounded}
+use Rattle.sf_tree.specs.inner.Known.{IsBounded}
 use Rattle.sf_tree.specs.Layers.{is_numbered, layer_of, index_of, has_layer, has_parent}
 use Rattle.sf_tree.specs.Steps.{all_steps, reaches_itself, to_parent}
 use Rattle.sf_tree.proofs.TreeKept.{IsTree-set, found_itself, index_of-set}

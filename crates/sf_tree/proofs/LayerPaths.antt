@@ -7,7 +7,7 @@ use Rattle.sf_base.specs.declared.ids.LayerId.{LayerId}
 use Rattle.sf_layer.specs.declared.layer.Layer.{Layer}
 use Rattle.sf_tree.specs.Layers.{layer_of, index_of}
 use Rattle.sf_tree.specs.Steps.{steps_of, reaches}
-use Rattle.sf_tree.specs.Search.{IsExplored, IsFollowed}
+use Rattle.sf_tree.specs.inner.Search.{IsExplored, IsFollowed}
 use Rattle.sf_tree.proofs.Lookups.{layer_of-none}
 
 or_weaker : (a b c d : Bool) → (a ≡ true → c ≡ true) → (b ≡ true → d ≡ true) → (a || b) ≡ true → (c || d) ≡ true

@@ -9,7 +9,7 @@ use Rattle.sf_layer.specs.declared.layer.Layer.{Layer}
 use Rattle.sf_layer.specs.declared.parent.Parent.{Parent}
 use Rattle.sf_layer.specs.declared.parent.Parent.TheVariants as parent
 use Rattle.sf_tree.specs.Kept.{HasNoCycle, IsRanked}
-use Rattle.sf_tree.specs.Known.{IsBounded}
+use Rattle.sf_tree.specs.inner.Known.{IsBounded}
 use Rattle.sf_tree.specs.Layers.{layer_of}
 use Rattle.sf_tree.specs.Steps.{all_steps, steps_of, reaches, to_parent}
 use Rattle.sf_tree.proofs.Ranks.{All-layer_of, layer_of-number}

@@ -9,9 +9,9 @@ use Rattle.sf_base.specs.declared.ids.LayerId.{LayerId}
 use Rattle.sf_layer.specs.declared.layer.Layer.{Layer}
 use Rattle.sf_layer.specs.declared.parent.Parent.TheVariants as parent
 use Rattle.sf_tree.specs.Kept.{IsDistinct, IsTied}
-use Rattle.sf_tree.specs.Known.{IsBounded}
+use Rattle.sf_tree.specs.inner.Known.{IsBounded}
 use Rattle.sf_tree.specs.Layers.{index_of, layer_of}
-use Rattle.sf_tree.specs.Ranking.{rank_at, rank_by, HasLower, LeadsLower, KeepsRanks, IsSound, IsFound, IsFoundBelow}
+use Rattle.sf_tree.specs.inner.Ranking.{rank_at, rank_by, HasLower, LeadsLower, KeepsRanks, IsSound, IsFound, IsFoundBelow}
 use Rattle.sf_tree.proofs.TreeKept.{found_itself}
 use Rattle.sf_tree.proofs.Ranks.{layer_of-number}
 use Rattle.sf_tree.proofs.ShowLemmas.{at_found, inside_from_slice_get}

@@ -7,7 +7,7 @@ use Rattle.std.proofs.lemmas.List.Elements.{All-head, All-tail}
 use Rattle.sf_base.specs.declared.ids.LayerId.{LayerId}
 use Rattle.sf_layer.specs.declared.layer.Layer.{Layer}
 use Rattle.sf_tree.specs.Kept.{HasNoCycle, IsRanked, IsTied}
-use Rattle.sf_tree.specs.Known.{IsBounded}
+use Rattle.sf_tree.specs.inner.Known.{IsBounded}
 use Rattle.sf_tree.specs.Layers.{is_numbered, layer_of, has_layer}
 
 -- a layer that is found is one of the tree, and has the number

@@ -15,7 +15,7 @@ use Rattle.sf_layer.specs.declared.parent.Parent.TheVariants as parent
 use Rattle.sf_tree.specs.Changes.{new_layer}
 use Rattle.sf_tree.specs.Layers.{is_numbered, index_of}
 use Rattle.sf_tree.specs.Steps.{reaches}
-use Rattle.sf_tree.specs.Search.{IsReached, IsSearch, GoesOn, mark_count}
+use Rattle.sf_tree.specs.inner.Search.{IsReached, IsSearch, GoesOn, mark_count}
 use Rattle.sf_tree.proofs.Places.{index_of_inside}
 use Rattle.sf_tree.proofs.LayerPaths.{reaches-le}
 

@@ -11,7 +11,7 @@ use Rattle.sf_tree.specs.declared.cycles.Along.{Along}
 use Rattle.sf_tree.specs.declared.cycles.Along.TheVariants as along
 use Rattle.sf_tree.specs.Layers.{layer_of, index_of}
 use Rattle.sf_tree.specs.Steps.{steps_of, reaches, to_parent}
-use Rattle.sf_tree.specs.Search.{Grows, IsExplored, IsFollowed, IsReached, IsSearch, relative_along, steps_along}
+use Rattle.sf_tree.specs.inner.Search.{Grows, IsExplored, IsFollowed, IsReached, IsSearch, relative_along, steps_along}
 use Rattle.sf_tree.proofs.Lookups.{layer_of-place}
 use Rattle.sf_tree.proofs.SearchKnowledge.{mark_count-le}
 use Rattle.sf_tree.proofs.LayerPaths.{reaches-step, reaches-more}

@@ -10,7 +10,7 @@ use Rattle.sf_layer.specs.declared.layer.Layer.{Layer}
 use Rattle.sf_layer.specs.declared.parent.Parent.{Parent}
 use Rattle.sf_layer.specs.declared.parent.Parent.TheVariants as parent
 use Rattle.sf_tree.specs.Kept.{HasNoCycle, IsDistinct, IsRanked, IsTied}
-use Rattle.sf_tree.specs.Known.{IsBounded, IsKnown, Outranks}
+use Rattle.sf_tree.specs.inner.Known.{IsBounded, IsKnown, Outranks}
 use Rattle.sf_tree.specs.Layers.{layer_of, index_of}
 use Rattle.sf_tree.specs.Showing.{parent_passes, passes, relative_passes, shows, shows_within}
 use Rattle.sf_tree.proofs.TreeKept.{found_itself}

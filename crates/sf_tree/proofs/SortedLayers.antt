@@ -6,7 +6,7 @@ use Rattle.std.proofs.lemmas.Int.{ints}
 use Rattle.std.proofs.lemmas.List.{reverse-append}
 use Rattle.sf_layer.specs.declared.layer.Layer.{Layer}
 use Rattle.sf_tree.specs.DrawOrder.{in_z_order, put_by_z}
-use Rattle.sf_tree.specs.Known.{AtPlaces, IsFrom, IsRising}
+use Rattle.sf_tree.specs.inner.Known.{AtPlaces, IsFrom, IsRising}
 use Rattle.sf_tree.specs.Showing.{shows}
 use Rattle.sf_tree.proofs.ZOrder.{drop_one}
 

@@ -21,7 +21,7 @@ use Rattle.sf_layer.specs.declared.parent.Parent.{Parent}
 use Rattle.sf_layer.specs.declared.parent.Parent.TheVariants as parent
 use Rattle.sf_tree.specs.Changes.{new_layer, without, without_steps_to, parent_without, relative_without, edited, fits_kind}
 use Rattle.sf_tree.specs.Kept.{HasNoCycle, IsDistinct, IsLayerInRange, IsOfKind, IsRanked, IsTied, IsTree}
-use Rattle.sf_tree.specs.Known.{IsBounded}
+use Rattle.sf_tree.specs.inner.Known.{IsBounded}
 use Rattle.sf_tree.specs.Layers.{is_numbered, layer_of, index_of, has_layer, has_parent}
 use Rattle.sf_tree.proofs.Edits.{edited_number}
 use Rattle.sf_tree.proofs.Lookups.{has_layer-place, layer_of-place, index_of-absent}

@@ -11,7 +11,7 @@ use Rattle.sf_layer.specs.declared.layer.Layer.{Layer}
 use Rattle.sf_tree.specs.declared.cycles.Along.{Along}
 use Rattle.sf_tree.specs.declared.cycles.Along.TheVariants as along
 use Rattle.sf_tree.specs.Layers.{layer_of, index_of}
-use Rattle.sf_tree.specs.Search.{leads_to, relative_along, steps_along}
+use Rattle.sf_tree.specs.inner.Search.{leads_to, relative_along, steps_along}
 use Rattle.sf_tree.specs.Steps.{reaches, steps_of, to_parent}
 use Rattle.sf_tree.proofs.Lookups.{layer_of-place, layer_of-none}
 use Rattle.sf_tree.proofs.Places.{index_of_inside}

@@ -12,7 +12,7 @@ use Rattle.std.proofs.lemmas.List.{get_or-map}
 use Rattle.std.proofs.lemmas.Option.{get_or_from_slice_get}
 use Rattle.sf_layer.specs.declared.layer.Layer.{Layer}
 use Rattle.sf_tree.specs.DrawOrder.{in_z_order, put_by_z}
-use Rattle.sf_tree.specs.Known.{AtPlaces, IsEntry}
+use Rattle.sf_tree.specs.inner.Known.{AtPlaces, IsEntry}
 use Rattle.sf_tree.specs.Showing.{shows}
 use Rattle.sf_tree.proofs.ShowLemmas.{inside_from_slice_get}
 

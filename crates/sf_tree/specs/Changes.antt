@@ -40,11 +40,13 @@ new_layer id kind parent =
 abbrev pub with_layer : LayerId → (Layer → Layer) → List Layer → List Layer
 with_layer id edit tree = map (λ layer. if is_numbered id layer then edit layer else layer) tree
 
+-- what a layer hangs from once this layer is gone
 abbrev pub parent_without : LayerId → Parent → Parent
 parent_without id parent.Root = parent.Root
 parent_without id (parent.Layer other) = if other.0 == id.0 then parent.Nothing else parent.Layer other
 parent_without id parent.Nothing = parent.Nothing
 
+-- what a layer is relative to once this layer is gone
 abbrev pub relative_without : LayerId → Option LayerId → Option LayerId
 relative_without id None = None
 relative_without id (Some other) = if other.0 == id.0 then None else Some other
@@ -107,6 +109,7 @@ made_relative tree id other z =
     if not (has_layer tree id && has_layer tree other) then Err reject.UnknownLayer else
     if reaches_itself all_steps next id then Err reject.DrawCycle else Ok next
 
+-- the layers with one of them edited, if it is there and of a kind that has what is edited
 abbrev pub edited_layer : List Layer → LayerId → Op → Option Layer → Result (List Layer) Reject
 edited_layer tree id operation None = Err reject.UnknownLayer
 edited_layer tree id operation (Some layer) =
@@ -125,6 +128,7 @@ pub record Rejection : Type 0 where
   pub cause : ℕ
   pub op : ℕ
 
+-- the rest after an operation of this number, unless that is rejected
 abbrev pub then_after : ℕ → Result (List Layer) Reject → (List Layer → Result (List Layer) Rejection) → Result (List Layer) Rejection
 then_after number (Ok tree) rest = rest tree
 then_after number (Err cause) rest = Err (record { cause = number_of cause; op = number })
@@ -135,6 +139,7 @@ after_from most number layers [] = Ok layers
 after_from most number layers (operation ∷ operations) =
     then_after number (changed most layers operation.0 operation.1) (λ next. after_from most (number + 1) next operations)
 
+-- the tree with these layers, unless an operation was rejected
 abbrev pub with_layers : TreeOf → Result (List Layer) Rejection → Result TreeOf Rejection
 with_layers tree (Ok layers) = Ok (record tree { layers = layers })
 with_layers tree (Err rejection) = Err rejection

@@ -16,6 +16,7 @@ draw_parent layer = by_relative layer.relative
     by_relative None = layer.parent
     by_relative (Some id) = parent.Layer id
 
+-- both are the root, the same layer, or nothing
 abbrev pub is_same : Parent → Parent → Bool
 is_same parent.Root parent.Root = true
 is_same (parent.Layer a) (parent.Layer b) = a.0 == b.0
@@ -37,6 +38,7 @@ in_z_order (layer ∷ layers) = put_by_z layer (in_z_order layers)
 abbrev pub drawn_with : Parent → List Layer → List Layer
 drawn_with with layers = filter (λ layer. is_same (draw_parent layer) with) layers
 
+-- a layer lies behind what it is drawn with
 abbrev pub is_behind : Layer → Bool
 is_behind layer = int_lt layer.z (pos 0)
 

@@ -18,6 +18,7 @@ layer_of tree id = find (is_numbered id) tree
 abbrev pub index_of : List Layer → LayerId → Option ℕ
 index_of tree id = position (is_numbered id) tree
 
+-- the tree has this layer
 abbrev pub has_layer : List Layer → LayerId → Bool
 has_layer tree id = is_some (layer_of tree id)
 

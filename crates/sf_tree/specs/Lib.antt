@@ -8,10 +8,6 @@ pub mod DrawOrder
 pub mod Kept
 pub mod Index
 pub use Rattle.sf_layer.specs.Ranges
-pub mod Journal
-pub mod ChangeAnswers
-pub mod Search
 pub mod Answers
-pub mod Known
-pub mod Ranking
+pub mod inner
 pub use Rattle.sf_layer.specs as sf_layer

@@ -3,6 +3,7 @@ use Rattle.std.specs.Prelude.{ℕ}
 use Rattle.sf_tree.specs.declared.reject.Reject.{Reject}
 use Rattle.sf_tree.specs.declared.reject.Reject.TheVariants as reject
 
+-- the number of a cause in records
 abbrev pub number_of : Reject → ℕ
 number_of reject.UnknownLayer = 1
 number_of reject.LayerExists = 2

@@ -6,6 +6,7 @@ use Rattle.sf_layer.specs.declared.parent.Parent.{Parent}
 use Rattle.sf_layer.specs.declared.parent.Parent.TheVariants as parent
 use Rattle.sf_tree.specs.Layers.{layer_of}
 
+-- the layer is there and passes the test
 abbrev pub passes : (Layer → Bool) → Option Layer → Bool
 passes test None = false
 passes test (Some layer) = test layer
@@ -30,5 +31,6 @@ shows_within tree (suc steps) layer =
     && (parent_passes tree (shows_within tree steps) layer.parent
     && relative_passes tree (shows_within tree steps) layer.relative)
 
+-- a layer shows: it is not hidden, and what it hangs from shows, and what it is relative to
 unfoldable pub shows : List Layer → Layer → Bool
 shows tree layer = shows_within tree (length tree) layer

@@ -13,6 +13,7 @@ to_parent parent.Root = []
 to_parent (parent.Layer id) = id ∷ []
 to_parent parent.Nothing = []
 
+-- the step from a layer to the one that it hangs from, if it is one
 abbrev pub parent_steps : Layer → List LayerId
 parent_steps layer = to_parent layer.parent
 
@@ -20,6 +21,7 @@ parent_steps layer = to_parent layer.parent
 abbrev pub all_steps : Layer → List LayerId
 all_steps layer = to_parent layer.parent ++ option_to_list layer.relative
 
+-- the steps from a layer, if it is there
 abbrev pub steps_of : (Layer → List LayerId) → Option Layer → List LayerId
 steps_of steps None = []
 steps_of steps (Some layer) = steps layer

@@ -1,9 +1,10 @@
+//! All operations of a transaction on the tree, whole or not at all: what a commit does to layers.
 ghost use Rattle.std.specs.Prelude.{◌≡◌, ◌≤◌, List, length, IfErr, OnOk, OnErr};
 ghost use Rattle.sf_layer.specs.declared.layer.Layer.{Layer as LayerValue};
 ghost use Rattle.sf_tree.specs.Answers.{IsRejection};
-ghost use Rattle.sf_tree.specs.ChangeAnswers.{IsDone};
+ghost use Rattle.sf_tree.specs.inner.ChangeAnswers.{IsDone};
 ghost use Rattle.sf_tree.specs.Changes.{after_from, changed};
-ghost use Rattle.sf_tree.specs.Journal.{GoesBack};
+ghost use Rattle.sf_tree.specs.inner.Journal.{GoesBack};
 
 use crate::changes::{ChangeFault, change, destroy};
 use crate::journal::{Journal, take_back};
@@ -30,7 +31,7 @@ pub enum ApplyFault {
     NoMemory,
 }
 
-// Does one operation in place, and notes how it is taken back.
+/// Does one operation in place, and notes how it is taken back.
 fn step(
     alloc: Global,
     layers: &mut Layers,
@@ -54,7 +55,7 @@ fn step(
     }
 }
 
-// Does all operations in place, in order, or leaves the layers as they were.
+/// Does all operations in place, in order, or leaves the layers as they were.
 pub fn apply_all(
     alloc: Global,
     layers: &mut Layers,

@@ -1,10 +1,11 @@
+//! One operation in place, with its tests and with how it is taken back.
 ghost use Rattle.std.specs.Prelude.{◌≡◌, ◌≢◌, ◌<◌, List, IfOk, length, slice_index_or};
 ghost use Rattle.sf_layer.specs.declared.layer.Layer.{Layer as LayerValue};
 ghost use Rattle.sf_layer.specs.declared.op.Op.TheVariants as variants;
 ghost use Rattle.sf_tree.specs.Changes.{changed, created, destroyed, edited, edited_layer, fits_kind, made_relative, new_layer, reparented};
 ghost use Rattle.sf_tree.specs.Layers.{layer_of};
-ghost use Rattle.sf_tree.specs.ChangeAnswers.{draw_cause, IsChange, IsDone, parent_cause, Settles};
-ghost use Rattle.sf_tree.specs.Journal.{GoesBack};
+ghost use Rattle.sf_tree.specs.inner.ChangeAnswers.{draw_cause, IsChange, IsDone, parent_cause, Settles};
+ghost use Rattle.sf_tree.specs.inner.Journal.{GoesBack};
 
 use crate::cycles::{Along, reaches_itself};
 use crate::journal::{Journal, Undo};
@@ -21,6 +22,7 @@ pub enum ChangeFault {
     NoMemory,
 }
 
+/// A layer as it is created: shown, at its parent's place, with z 0 and alpha 255.
 fn new_layer(number: LayerId, kind: Kind, parent: Parent) -> Layer
     ensures { result ≡ new_layer number kind parent }
 {
@@ -47,6 +49,8 @@ fn new_layer(number: LayerId, kind: Kind, parent: Parent) -> Layer
     }
 }
 
+/// Creates a layer, as the newest. Refused: a parent that is not there, a number in use, one layer
+/// more than the most.
 #[tactic(auto, using(crate::proofs::Lookups::lookups), unfolding(crate::specs::Changes::created))]
 fn create(
     layers: &mut Layers,
@@ -72,7 +76,7 @@ fn create(
     }
 }
 
-// Destroys a layer in place, once the journal has all layers.
+/// Destroys a layer in place, once the journal has all layers.
 #[tactic(auto, using(crate::proofs::Lookups::lookups), unfolding(crate::specs::Changes::destroyed))]
 pub fn destroy(
     alloc: Global,
@@ -95,6 +99,8 @@ pub fn destroy(
     }
 }
 
+/// Whether an operation is one for a layer of this kind: a colour is for colour layers, a buffer
+/// for buffer layers.
 fn fits_kind(op: &Op, kind: Kind) -> bool
     ensures { result ≡ fits_kind op.now kind }
 {
@@ -105,6 +111,8 @@ fn fits_kind(op: &Op, kind: Kind) -> bool
     }
 }
 
+/// A layer after an operation that changes it alone. Setting its z ends its relation to another
+/// layer.
 fn edited(op: &Op, layer: Layer) -> Layer
     ensures { result ≡ edited op.now layer }
 {
@@ -128,6 +136,7 @@ fn edited(op: &Op, layer: Layer) -> Layer
     layer
 }
 
+/// Changes one layer alone. Refused: a layer that is not there, one of another kind.
 #[tactic(auto, using(crate::proofs::Lookups::lookups))]
 fn edit(layers: &mut Layers, id: LayerId, op: &Op) -> Result<Undo, ChangeFault>
     ensures { IsChange result layers.old layers.new (edited_layer layers.old id op.now (layer_of layers.old id)) }
@@ -143,7 +152,7 @@ fn edit(layers: &mut Layers, id: LayerId, op: &Op) -> Result<Undo, ChangeFault>
     Ok(Undo::Edited(place, layer))
 }
 
-// Why a layer cannot hang where it hangs now, if it cannot.
+/// Why a layer cannot hang where it hangs now, if it cannot.
 fn parent_fault(alloc: Global, layers: &Layers, id: LayerId) -> Result<Option<Reject>, NoMemory>
     ensures { IfOk result (λ cause. cause ≡ parent_cause layers.now id) }
 {
@@ -153,7 +162,7 @@ fn parent_fault(alloc: Global, layers: &Layers, id: LayerId) -> Result<Option<Re
     draw_fault(alloc, layers, id)
 }
 
-// Why a layer cannot be drawn with what it is drawn with now, if it cannot.
+/// Why a layer cannot be drawn with what it is drawn with now, if it cannot.
 fn draw_fault(alloc: Global, layers: &Layers, id: LayerId) -> Result<Option<Reject>, NoMemory>
     ensures { IfOk result (λ cause. cause ≡ draw_cause layers.now id) }
 {
@@ -163,7 +172,7 @@ fn draw_fault(alloc: Global, layers: &Layers, id: LayerId) -> Result<Option<Reje
     Ok(None)
 }
 
-// Leaves a layer as it is now, or puts it back as it was before where a cause was found.
+/// Leaves a layer as it is now, or puts it back as it was before where a cause was found.
 fn settle(
     layers: &mut Layers,
     place: usize,
@@ -204,6 +213,8 @@ fn with_relative(layer: Layer, other: LayerId, z: i32) -> Layer
     layer
 }
 
+/// Sets a layer's parent, unless the layer would then reach itself by steps to parents or relative
+/// layers. Refused too: a layer or a parent that is not there.
 fn reparent(
     alloc: Global,
     layers: &mut Layers,
@@ -224,6 +235,8 @@ fn reparent(
     settle(layers, place, before, fault)
 }
 
+/// Sets the layer with which another is drawn, unless it would then reach itself. Refused too: a
+/// layer that is not there.
 fn relate(
     alloc: Global,
     layers: &mut Layers,
@@ -245,7 +258,7 @@ fn relate(
     settle(layers, place, before, fault)
 }
 
-// Does one operation in place, but for `destroy`, and tells how it is taken back.
+/// Does one operation in place, but for `destroy`, and tells how it is taken back.
 pub fn change(
     alloc: Global,
     layers: &mut Layers,

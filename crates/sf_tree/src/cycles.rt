@@ -1,10 +1,12 @@
+//! Whether a layer would reach itself by parents or relative layers, which a change is rejected
+//! for.
 ghost use Rattle.std.specs.Prelude.{◌≡◌, ◌==◌, ℕ, ◌+◌, ◌<◌, ◌∷◌, [], List, length, true, false, IfOk, IfSome, IsSomeAnd, option_to_list, slice_index_or};
 ghost use Rattle.std.specs.List.{All, list_any};
 ghost use Rattle.sf_base.specs.declared.ids.LayerId.{LayerId as LayerIdValue};
 ghost use Rattle.sf_layer.specs.declared.layer.Layer.{Layer as LayerValue};
 ghost use Rattle.sf_tree.specs.Layers.{index_of};
 ghost use Rattle.sf_tree.specs.Steps.{reaches, reaches_itself, to_parent};
-ghost use Rattle.sf_tree.specs.Search.{Grows, IsExplored, IsSearch, KeepsSearch, leads_to, relative_along, steps_along};
+ghost use Rattle.sf_tree.specs.inner.Search.{Grows, IsExplored, IsSearch, KeepsSearch, leads_to, relative_along, steps_along};
 
 use crate::layers::Layers;
 use sf_base::{LayerId, NoMemory};
@@ -29,6 +31,7 @@ fn parent_step(layer: &Layer) -> Option<LayerId>
     }
 }
 
+/// The layer with which this one is drawn, where such steps count.
 fn relative_step(layer: &Layer, along: Along) -> Option<LayerId>
     ensures { result ≡ relative_along along layer.now }
 {
@@ -38,7 +41,7 @@ fn relative_step(layer: &Layer, along: Along) -> Option<LayerId>
     }
 }
 
-// Whether there is a step from a layer.
+/// Whether there is a step from a layer.
 #[tactic(auto, using(crate::proofs::UnreachedLayers::no_step))]
 fn has_step(layer: &Layer, along: Along) -> bool
     ensures { result ≡ false → steps_along along layer.now ≡ [] }
@@ -49,7 +52,7 @@ fn has_step(layer: &Layer, along: Along) -> bool
     relative_step(layer, along).is_some()
 }
 
-// Whether a step, if there is one, leads to the layer of a number.
+/// Whether a step, if there is one, leads to the layer of a number.
 fn is_step_to(next: Option<LayerId>, id: LayerId) -> bool
     ensures { result ≡ list_any (λ other. other.0 == id.0) (option_to_list next) }
 {
@@ -59,7 +62,7 @@ fn is_step_to(next: Option<LayerId>, id: LayerId) -> bool
     }
 }
 
-// Whether a step from a layer does.
+/// Whether a step from a layer does.
 #[tactic(auto, using(crate::proofs::UnreachedLayers::led_by_no_step))]
 fn leads_to(layer: &Layer, along: Along, id: LayerId) -> bool
     ensures { result ≡ false → leads_to along id layer.now ≡ false }
@@ -70,7 +73,7 @@ fn leads_to(layer: &Layer, along: Along, id: LayerId) -> bool
     is_step_to(relative_step(layer, along), id)
 }
 
-// Whether a step from any of these layers does.
+/// Whether a step from any of these layers does.
 fn any_leads_to(layers: &[Layer], along: Along, id: LayerId) -> bool
     ensures { result ≡ false → All (λ layer. leads_to along id layer ≡ false) layers.now }
 {
@@ -92,7 +95,7 @@ struct Search {
 }
 
 impl Search {
-    // A search that has reached the first layer alone.
+    /// A search that has reached the first layer alone.
     fn from(
         alloc: Global,
         layers: &Layers,
@@ -111,7 +114,7 @@ impl Search {
         Ok(Search { found, marks })
     }
 
-    // Follows a step: whether it leads to the first layer.
+    /// Follows a step: whether it leads to the first layer.
     fn follow(
         &mut self,
         layers: &Layers,
@@ -141,8 +144,8 @@ impl Search {
         Ok(false)
     }
 
-    // Follows the steps from the layer that was found at an index: whether one leads to the first
-    // layer.
+    /// Follows the steps from the layer that was found at an index: whether one leads to the first
+    /// layer.
     fn explore(
         &mut self,
         layers: &Layers,
@@ -173,7 +176,7 @@ impl Search {
 // How many layers a search explores before it looks whether a step leads back at all.
 const MOST_BLIND: usize = 16;
 
-// Whether a layer reaches itself by one step or more.
+/// Whether a layer reaches itself by one step or more.
 #[tactic(auto, unfolding(crate::specs::Steps::reaches_itself))]
 pub fn reaches_itself(
     alloc: Global,

@@ -1,16 +1,18 @@
+//! A tree of given layers, as captures and mirrors make one: whether no two have one number, and no
+//! layer reaches itself.
 ghost use Rattle.std.specs.Prelude.{◌≡◌, ℕ, ◌+◌, ◌<◌, ◌≤◌, length, Ok, true, false, IfOk, IfSome, IfNone, slice_get, slice_index_or, slice_set, Some};
 ghost use Rattle.std.specs.List.{All};
 ghost use Rattle.sf_layer.specs.declared.layer.Layer.{Layer as LayerValue};
 ghost use Rattle.sf_tree.specs.Kept.{HasNoCycle, IsDistinct, IsRanked, IsTied};
 ghost use Rattle.sf_tree.specs.Layers.{has_layer};
-ghost use Rattle.sf_tree.specs.Ranking.{rank_by, HasLower, LeadsLower, AllLeadLower, IsSound, IsFound, IsFoundBelow, KeepsRanks};
+ghost use Rattle.sf_tree.specs.inner.Ranking.{rank_by, HasLower, LeadsLower, AllLeadLower, IsSound, IsFound, IsFoundBelow, KeepsRanks};
 
 use crate::layers::Layers;
 use sf_base::{LayerId, NoMemory};
 use sf_layer::{Layer, Parent};
 use std::alloc::Global;
 
-// These layers in their order; none exactly where two of them have one number.
+/// These layers in their order; none exactly where two of them have one number.
 #[tactic(auto, using(crate::proofs::Lookups::lookups))]
 pub fn layers_of(alloc: Global, list: &[Layer]) -> Result<Option<Layers>, NoMemory>
     ensures made { IfOk result (λ made. IfSome made (λ layers. layers ≡ list.now)) }
@@ -26,10 +28,10 @@ pub fn layers_of(alloc: Global, list: &[Layer]) -> Result<Option<Layers>, NoMemo
     Ok(Some(layers))
 }
 
-// The rank of the layer at a place: where no layer reaches itself, it is greater than those of the
-// layers that its steps lead to. A rank that was found is noted, 0 is none. The steps bound how far
-// parents and relative layers are followed: more than the layer's rank in any ranking by which all
-// steps lead lower are enough to find one.
+/// The rank of the layer at a place: where no layer reaches itself, it is greater than those of the
+/// layers that its steps lead to. A rank that was found is noted, 0 is none. The steps bound how far
+/// parents and relative layers are followed: more than the layer's rank in any ranking by which all
+/// steps lead lower are enough to find one.
 #[cycle(rank)]
 fn rank(layers: &Layers, ranks: &mut [usize], place: usize, steps: usize) -> usize
     requires inside { place < length layers.now }
@@ -47,8 +49,8 @@ fn rank(layers: &Layers, ranks: &mut [usize], place: usize, steps: usize) -> usi
     ranks[place]
 }
 
-// Notes the rank of the layer at a place, unless it has one: where steps form a cycle, the layer may
-// have been met again meanwhile.
+/// Notes the rank of the layer at a place, unless it has one: where steps form a cycle, the layer may
+/// have been met again meanwhile.
 fn note(ranks: &mut [usize], place: usize, rank: usize)
     requires { place < length ranks.old }
     ensures kept { 0 < slice_index_or ranks.old place 0 → ranks.new ≡ ranks.old }
@@ -59,7 +61,7 @@ fn note(ranks: &mut [usize], place: usize, rank: usize)
     }
 }
 
-// The greatest rank of the layers that the steps of a layer lead to.
+/// The greatest rank of the layers that the steps of a layer lead to.
 #[cycle(rank)]
 fn rank_below(layers: &Layers, ranks: &mut [usize], layer: &Layer, steps: usize) -> usize
     requires { length ranks.old ≡ length layers.now }
@@ -79,6 +81,7 @@ fn rank_below(layers: &Layers, ranks: &mut [usize], layer: &Layer, steps: usize)
     parent.max(relative)
 }
 
+/// The rank of the layer of a number; 0 where there is none.
 #[cycle(rank)]
 fn rank_of(layers: &Layers, ranks: &mut [usize], id: LayerId, steps: usize) -> usize
     requires { length ranks.old ≡ length layers.now }
@@ -94,7 +97,7 @@ fn rank_of(layers: &Layers, ranks: &mut [usize], id: LayerId, steps: usize) -> u
     }
 }
 
-// Whether the layer of a number is there and has a lower rank than this.
+/// Whether the layer of a number is there and has a lower rank than this.
 fn is_lower(layers: &Layers, ranks: &[usize], id: LayerId, rank: usize) -> bool
     requires { length ranks.now ≡ length layers.now }
     ensures there { result ≡ true → has_layer layers.now id ≡ true }
@@ -107,7 +110,7 @@ fn is_lower(layers: &Layers, ranks: &[usize], id: LayerId, rank: usize) -> bool
     }
 }
 
-// Whether the steps of a layer of this rank lead to layers of lower ranks.
+/// Whether the steps of a layer of this rank lead to layers of lower ranks.
 fn leads_lower(layers: &Layers, ranks: &[usize], layer: &Layer, rank: usize) -> bool
     requires { length ranks.now ≡ length layers.now }
     ensures tied { result ≡ true → IsTied layers.now layer.now }
@@ -125,7 +128,7 @@ fn leads_lower(layers: &Layers, ranks: &[usize], layer: &Layer, rank: usize) -> 
     parent && relative
 }
 
-// Whether all steps lead to layers of lower ranks, where the layers have these by their places.
+/// Whether all steps lead to layers of lower ranks, where the layers have these by their places.
 fn all_lead_lower(layers: &Layers, ranks: &[usize]) -> bool
     requires distinct { IsDistinct layers.now }
     requires size { length ranks.now ≡ length layers.now }
@@ -141,8 +144,8 @@ fn all_lead_lower(layers: &Layers, ranks: &[usize]) -> bool
     true
 }
 
-// Whether all steps lead to layers that are there, and no layer reaches itself. Each layer is looked
-// at once.
+/// Whether all steps lead to layers that are there, and no layer reaches itself. Each layer is looked
+/// at once.
 pub fn steps_end(alloc: Global, layers: &Layers) -> Result<bool, NoMemory>
     requires distinct { IsDistinct layers.now }
     ensures tied { result ≡ Ok true → All (IsTied layers.now) layers.now }

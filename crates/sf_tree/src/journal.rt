@@ -1,6 +1,8 @@
+//! How the operations of a transaction are taken back, the last one first, where a later one is
+//! rejected.
 ghost use Rattle.std.specs.Prelude.{◌≡◌, List, is_some, OnOk, OnErr, IfErr, unwrap_or};
 ghost use Rattle.sf_layer.specs.declared.layer.Layer.{Layer as LayerValue};
-ghost use Rattle.sf_tree.specs.Journal.{back, CanGoBack, CanUndo, GoesBack, undone};
+ghost use Rattle.sf_tree.specs.inner.Journal.{back, CanGoBack, CanUndo, GoesBack, undone};
 
 use crate::layers::Layers;
 use sf_base::NoMemory;
@@ -16,7 +18,7 @@ pub enum Undo {
     Edited(usize, Layer),
 }
 
-// Takes one change back.
+/// Takes one change back.
 pub fn take_back(layers: &mut Layers, undo: Undo)
     requires { CanUndo undo layers.old }
     ensures { layers.new ≡ undone undo layers.old }
@@ -27,7 +29,7 @@ pub fn take_back(layers: &mut Layers, undo: Undo)
     }
 }
 
-// Takes changes back, the last one first.
+/// Takes changes back, the last one first.
 fn take_all_back(layers: &mut Layers, mut changes: Vec<Undo>)
     requires { CanGoBack changes.items layers.old }
     ensures { layers.new ≡ back changes.items layers.old }
@@ -55,15 +57,15 @@ impl Journal {
         }
     }
 
-    // Whether it has all layers as they were, so that later changes need not be noted.
+    /// Whether it has all layers as they were, so that later changes need not be noted.
     pub fn has_all(&self) -> bool
         ensures { result ≡ is_some self.now.before }
     {
         self.before.is_some()
     }
 
-    // Keeps all layers as they are now, unless it has them already. Whatever is made of the layers
-    // from then on is taken back.
+    /// Keeps all layers as they are now, unless it has them already. Whatever is made of the layers
+    /// from then on is taken back.
     pub fn keep_all(&mut self, alloc: Global, layers: &Layers) -> Result<(), NoMemory>
         ensures ok { OnOk result ((next first : List LayerValue) → GoesBack self.old layers.now first → GoesBack self.new next first) }
         ensures err { OnErr result ((first : List LayerValue) → GoesBack self.old layers.now first → GoesBack self.new layers.now first) }
@@ -75,7 +77,7 @@ impl Journal {
         Ok(())
     }
 
-    // Notes how the last change is taken back, or hands it back for want of memory.
+    /// Notes how the last change is taken back, or hands it back for want of memory.
     pub fn remember(&mut self, undo: Undo) -> Result<(), Undo>
         ensures ok { OnOk result ((layers first : List LayerValue) → CanUndo undo layers →
             GoesBack self.old (undone undo layers) first → GoesBack self.new layers first) }
@@ -91,7 +93,7 @@ impl Journal {
         }
     }
 
-    // Takes all changes back.
+    /// Takes all changes back.
     pub fn go_back(self, layers: &mut Layers)
         requires { CanGoBack self.changes.items (unwrap_or self.before layers.old) }
         ensures { layers.new ≡ back self.changes.items (unwrap_or self.before layers.old) }

@@ -1,3 +1,4 @@
+//! A law about trees, called for its clauses alone: no layer reaches itself.
 ghost use Rattle.std.specs.Prelude.{◌≡◌, ℕ, List, false};
 ghost use Rattle.sf_base.specs.declared.ids.LayerId.{LayerId as LayerIdValue};
 ghost use Rattle.sf_layer.specs.declared.layer.Layer.{Layer as LayerValue};

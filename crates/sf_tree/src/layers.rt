@@ -1,3 +1,4 @@
+//! The layers in the order of their creation, found by their numbers.
 ghost use Rattle.std.specs.Prelude.{◌≡◌, ◌<◌, ◌-◌, ◌++◌, ◌∷◌, [], List, length, map, take, IfOk, OnOk, OnErr, slice_get, slice_set, slice_index_or};
 ghost use Rattle.sf_tree.specs.Layers.{index_of, has_layer, has_parent};
 ghost use Rattle.sf_tree.specs.Changes.{without, without_steps_to};
@@ -70,7 +71,7 @@ impl Layers {
         }
     }
 
-    // The layer at a place.
+    /// The layer at a place.
     pub fn at(&self, place: usize) -> Layer
         requires { place < length self.now }
         ensures { slice_get self.now place ≡ Some result }
@@ -78,7 +79,7 @@ impl Layers {
         self.list[place]
     }
 
-    // Whether a layer that is named as a parent is there.
+    /// Whether a layer that is named as a parent is there.
     pub fn has_parent(&self, parent: Parent) -> bool
         ensures { result ≡ has_parent self.now parent }
     {
@@ -95,7 +96,7 @@ impl Layers {
         self.index_of(id).is_some()
     }
 
-    // The layer is the newest then.
+    /// The layer is the newest then.
     pub fn push(&mut self, layer: Layer) -> Result<(), NoMemory>
         requires { index_of self.old layer.number ≡ None }
         ensures ok { OnOk result (self.new ≡ self.old ++ layer ∷ []) }
@@ -112,7 +113,7 @@ impl Layers {
         }
     }
 
-    // The newest layer goes.
+    /// The newest layer goes.
     pub fn pop(&mut self)
         ensures { self.new ≡ take (length self.old - 1) self.old }
     {
@@ -121,7 +122,7 @@ impl Layers {
         }
     }
 
-    // Another state of the layer at a place.
+    /// Another state of the layer at a place.
     pub fn set(&mut self, place: usize, layer: Layer)
         requires inside { place < length self.old }
         requires same { (slice_index_or self.old place layer).number ≡ layer.number }
@@ -130,7 +131,7 @@ impl Layers {
         self.list[place] = layer;
     }
 
-    // A copy of all layers.
+    /// A copy of all layers.
     pub fn copy(&self, alloc: Global) -> Result<Layers, NoMemory>
         ensures { IfOk result (λ copy. copy ≡ self.now) }
     {
@@ -144,8 +145,8 @@ impl Layers {
         })
     }
 
-    // The layer of a number, which stands at this place, goes. The places of the newer ones
-    // are noted by `note_places`.
+    /// The layer of a number, which stands at this place, goes. The places of the newer ones
+    /// are noted by `note_places`.
     pub fn remove(&mut self, id: LayerId, place: usize)
         requires { index_of self.old id ≡ Some place }
         ensures { self.new ≡ without id self.old }
@@ -156,7 +157,7 @@ impl Layers {
         self.removed = self.removed.saturating_add(1);
     }
 
-    // Notes the places of all layers, once many were removed.
+    /// Notes the places of all layers, once many were removed.
     pub fn note_places(&mut self)
         ensures { self.new ≡ self.old }
     {
@@ -167,7 +168,7 @@ impl Layers {
     }
 }
 
-// The place of the layer of a number, which stands at this one or before it.
+/// The place of the layer of a number, which stands at this one or before it.
 fn place_up_to(list: &[Layer], id: LayerId, bound: usize) -> usize
     requires distinct { IsDistinct list.now }
     requires bound { StandsUpTo list.now id bound }
@@ -201,7 +202,7 @@ fn note_place(places: &mut BTreeMap<u32, usize>, list: &[Layer], place: usize)
     }
 }
 
-// No layer has this one as parent or is relative to it any more.
+/// No layer has this one as parent or is relative to it any more.
 fn clear_steps_to(list: &mut [Layer], id: LayerId)
     ensures { list.new ≡ map (without_steps_to id) list.old }
 {
@@ -210,6 +211,7 @@ fn clear_steps_to(list: &mut [Layer], id: LayerId)
     }
 }
 
+/// A layer that had the destroyed one as its parent, or was drawn with it, has none any more.
 fn clear_steps(layer: &mut Layer, id: LayerId)
     ensures { layer.new ≡ without_steps_to id layer.old }
 {

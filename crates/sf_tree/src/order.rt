@@ -1,3 +1,4 @@
+//! The order in which layers are drawn, from the back: what a view of the whole tree goes by.
 ghost use Rattle.std.specs.Prelude.{◌≡◌, ◌<◌, ◌++◌, ◌∷◌, [], List, filter, slice_index_or, slice_set, length, map, IfOk, IfSome, OnOk, slice_get};
 ghost use Rattle.std.specs.BTreeMap.{keys};
 ghost use Rattle.std.specs.List.{All, flat_map};
@@ -5,7 +6,7 @@ ghost use Rattle.sf_layer.specs.declared.layer.Layer.{Layer as LayerValue};
 ghost use Rattle.sf_layer.specs.declared.parent.Parent.TheVariants as parent;
 ghost use Rattle.sf_tree.specs.DrawOrder.{draw, draw_order, draw_parent, drawn_with, is_behind};
 ghost use Rattle.sf_tree.specs.Kept.{HasNoCycle, IsDistinct, IsTied};
-ghost use Rattle.sf_tree.specs.Known.{AtPlaces, is_on_side, IsBelow, IsSortedBelow, showing, SortsOneMore, with_place};
+ghost use Rattle.sf_tree.specs.inner.Known.{AtPlaces, is_on_side, IsBelow, IsSortedBelow, showing, SortsOneMore, with_place};
 ghost use Rattle.sf_tree.specs.Showing.{shows};
 
 use crate::layers::Layers;
@@ -15,15 +16,15 @@ use sf_layer::{Layer, Parent};
 use std::alloc::Global;
 use std::collections::BTreeMap;
 
-// The places in keys of z and place, in the keys' order.
+/// The places in keys of z and place, in the keys' order.
 fn places(alloc: Global, sorted: &BTreeMap<(i32, usize), ()>) -> Result<Vec<usize>, NoMemory>
     ensures { IfOk result (λ list. list.items ≡ map (λ key. key.1) (keys sorted.now)) }
 {
     Ok(sorted.keys().map(|key| key.1).collect(alloc)?)
 }
 
-// The places of the layers that show, by creation, where none has a lower z than an older one; so
-// they stand by z too.
+/// The places of the layers that show, by creation, where none has a lower z than an older one; so
+/// they stand by z too.
 fn by_creation(
     alloc: Global,
     layers: &Layers,
@@ -51,7 +52,7 @@ fn by_creation(
     Ok(Some(list))
 }
 
-// The places of the layers that show, by z, and by creation where z is equal.
+/// The places of the layers that show, by z, and by creation where z is equal.
 fn by_z(alloc: Global, layers: &Layers, flags: &[bool]) -> Result<Vec<usize>, NoMemory>
     requires { flags.now ≡ map (shows layers.now) layers.now }
     ensures { IfOk result (λ list. AtPlaces layers.now list.items (showing layers.now)) }
@@ -93,7 +94,7 @@ impl Below {
         })
     }
 
-    // One more layer goes to the end of those that are drawn with what it is drawn with.
+    /// One more layer goes to the end of those that are drawn with what it is drawn with.
     fn add(&mut self, layers: &Layers, place: usize) -> Result<(), NoMemory>
         requires inside { place < length layers.now }
         requires size { length self.old.lists.items ≡ length layers.now }
@@ -114,7 +115,7 @@ impl Below {
         }
     }
 
-    // One more place goes to the end of the layers that are drawn with the one at a place.
+    /// One more place goes to the end of the layers that are drawn with the one at a place.
     fn push(&mut self, with: usize, place: usize) -> Result<(), NoMemory>
         requires { with < length self.old.lists.items }
         ensures roots { self.new.roots.items ≡ self.old.roots.items }
@@ -127,6 +128,7 @@ impl Below {
     }
 }
 
+/// What a layer is drawn with: its relative layer, if it has one, or else its parent.
 fn draw_parent(layer: &Layer) -> Parent
     ensures { result ≡ draw_parent layer.now }
 {
@@ -136,7 +138,7 @@ fn draw_parent(layer: &Layer) -> Parent
     }
 }
 
-// The layers at these places, by what they are drawn with.
+/// The layers at these places, by what they are drawn with.
 fn sorted_below(alloc: Global, layers: &Layers, places: &[usize]) -> Result<Below, NoMemory>
     requires { AtPlaces layers.now places.now (showing layers.now) }
     ensures { IfOk result (λ below. IsSortedBelow layers.now (showing layers.now) below.roots.items (map (λ list. list.items) below.lists.items)) }
@@ -148,7 +150,7 @@ fn sorted_below(alloc: Global, layers: &Layers, places: &[usize]) -> Result<Belo
     Ok(below)
 }
 
-// Whether a layer lies behind what it is drawn with, or does not.
+/// Whether a layer lies behind what it is drawn with, or does not.
 fn is_on_side(layer: &Layer, behind: bool) -> bool
     ensures { result ≡ is_on_side behind layer.now }
 {
@@ -156,9 +158,9 @@ fn is_on_side(layer: &Layer, behind: bool) -> bool
     if behind { is_behind } else { !is_behind }
 }
 
-// Draws the layer at a place with all that is drawn with it. The steps bound how far down.
+/// Draws the layer at a place with all that is drawn with it. The steps bound how far down.
 #[cycle(draw)]
-#[tactic(auto, unfolding(crate::specs::Known::showing))]
+#[tactic(auto, unfolding(crate::specs::inner::Known::showing))]
 fn draw(
     layers: &Layers,
     lists: &[Vec<usize>],
@@ -179,8 +181,8 @@ fn draw(
     draw_side(layers, lists, &lists[place], false, steps - 1, order)
 }
 
-// Draws of the layers at these places those that lie behind what they are drawn with, or the
-// others.
+/// Draws of the layers at these places those that lie behind what they are drawn with, or the
+/// others.
 #[cycle(draw)]
 fn draw_side(
     layers: &Layers,
@@ -205,7 +207,7 @@ fn draw_side(
     Ok(())
 }
 
-// The layers that show, from the back.
+/// The layers that show, from the back.
 pub fn draw_order(alloc: Global, layers: &Layers) -> Result<Vec<LayerId>, NoMemory>
     requires distinct { IsDistinct layers.now }
     requires tied { All (IsTied layers.now) layers.now }

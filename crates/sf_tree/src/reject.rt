@@ -1,3 +1,4 @@
+//! Why an operation is rejected: the first cause that applies, with its number in records.
 ghost use Rattle.std.specs.Prelude.{◌≡◌};
 ghost use Rattle.sf_tree.specs.Rejects.{number_of};
 

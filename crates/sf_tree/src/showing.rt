@@ -1,17 +1,19 @@
+//! Which layers show: those that are not hidden, where what they hang from shows, and what they are
+//! relative to.
 ghost use Rattle.std.specs.Prelude.{◌≡◌, ◌+◌, ◌<◌, ◌&&◌, not, length, map, IfOk, slice_get};
 ghost use Rattle.std.specs.List.{All};
 ghost use Rattle.sf_layer.specs.declared.layer.Layer.{Layer as LayerValue};
 ghost use Rattle.sf_tree.specs.Kept.{HasNoCycle, IsDistinct, IsTied};
 ghost use Rattle.sf_tree.specs.Layers.{layer_of};
 ghost use Rattle.sf_tree.specs.Showing.{parent_passes, passes, relative_passes, shows};
-ghost use Rattle.sf_tree.specs.Known.{IsKnown, Outranks};
+ghost use Rattle.sf_tree.specs.inner.Known.{IsKnown, Outranks};
 
 use crate::layers::Layers;
 use sf_base::{LayerId, NoMemory};
 use sf_layer::{Layer, Parent};
 use std::alloc::Global;
 
-// Whether the layers show, by place.
+/// Whether the layers show, by place.
 pub fn showing(alloc: Global, layers: &Layers) -> Result<Vec<bool>, NoMemory>
     requires distinct { IsDistinct layers.now }
     requires tied { All (IsTied layers.now) layers.now }
@@ -26,8 +28,8 @@ pub fn showing(alloc: Global, layers: &Layers) -> Result<Vec<bool>, NoMemory>
     Ok(list)
 }
 
-// Whether the layer at a place shows. What was found out of other layers on the way is noted.
-// The steps bound how far parents and relative layers are followed.
+/// Whether the layer at a place shows. What was found out of other layers on the way is noted.
+/// The steps bound how far parents and relative layers are followed.
 #[cycle(show)]
 fn show(layers: &Layers, known: &mut [Option<bool>], place: usize, steps: usize) -> bool
     requires inside { place < length layers.now }
@@ -44,6 +46,8 @@ fn show(layers: &Layers, known: &mut [Option<bool>], place: usize, steps: usize)
     shown
 }
 
+/// Whether a layer shows: it is not hidden, its parent is the root or shows, and so does the layer
+/// with which it is drawn, if there is one.
 #[cycle(show)]
 fn decide(layers: &Layers, known: &mut [Option<bool>], layer: &Layer, steps: usize) -> bool
     requires known { IsKnown layers.now known.old }
@@ -69,6 +73,7 @@ fn decide(layers: &Layers, known: &mut [Option<bool>], layer: &Layer, steps: usi
     }
 }
 
+/// Whether the layer of a number is there and shows.
 #[cycle(show)]
 fn layer_shows(layers: &Layers, known: &mut [Option<bool>], id: LayerId, steps: usize) -> bool
     requires known { IsKnown layers.now known.old }

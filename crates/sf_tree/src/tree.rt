@@ -1,3 +1,5 @@
+//! The layer tree as its users hold it: commits apply operations to it, and views read its layers
+//! and their order.
 ghost use Rattle.std.specs.Prelude.{◌≡◌, ◌≤◌, ◌<◌, [], length, IfOk, IfErr, IfSome, IfNone, OnOk, OnErr, option_copied};
 ghost use Rattle.std.specs.List.{All};
 ghost use Rattle.sf_layer.specs.Ranges.{IsOperation};

@@ -1,3 +1,5 @@
+//! A turn at a buffer's pixels that has entered and was handed on already: all that is left for it
+//! is to leave.
 ghost use Rattle.std.specs.Prelude.{◌≡◌, ◌<◌};
 ghost use Rattle.sf_turns.specs.Views.{Leaves, IsExactAlone};
 

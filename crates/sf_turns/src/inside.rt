@@ -1,3 +1,4 @@
+//! A turn that has entered and has the pixels, before the next turn is issued.
 ghost use Rattle.std.specs.Prelude.{◌≡◌, ◌<◌, IfOk, IfErr};
 ghost use Rattle.sf_turns.specs.Views.{issued_with, heir_expecting};
 

@@ -1,3 +1,4 @@
+//! Which table of turns a type's tokens belong to, said by a type parameter.
 use std::marker::Brand;
 
 /// Which table of turns the tokens of a type are of, where a type has to say it: a queue that is

@@ -1,3 +1,4 @@
+//! Opens the table of a run: the first seat, and a stock of rights to open buffers, one for each.
 ghost use Rattle.std.specs.Prelude.{◌≡◌, true, replicate, [], IfOk};
 ghost use Rattle.sf_turns.specs.Counts.{range};
 ghost use Rattle.sf_turns.specs.declared.protocol.Home.TheVariants.{Vacant};

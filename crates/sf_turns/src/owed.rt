@@ -1,3 +1,4 @@
+//! A turn that was handed on before it entered: the drawing of a frame that was queued first.
 ghost use Rattle.std.specs.Prelude.{◌≡◌, ℕ, ◌<◌, ◌≤◌, IfOk, IfErr, MatchResult};
 ghost use Rattle.sf_turns.specs.Views.{Observes, IsExactAlone};
 

@@ -1,3 +1,4 @@
+//! Pictures as the stamps that turns promise and expect.
 use crate::stamped::Stamped;
 use sf_base::NoMemory;
 use sf_picture::{Painted, Picture};

@@ -1,3 +1,4 @@
+//! What a turn carries beside its seat, in one block of memory.
 ghost use Rattle.std.specs.Prelude.{◌≡◌, false, None};
 
 use crate::stamped::Stamped;

@@ -1,3 +1,4 @@
+//! What one thread knows of the turns that have left, and through which its own turns leave.
 ghost use Rattle.std.specs.Prelude.{◌≡◌, ◌+◌, ◌<◌, ℕ, true, false, [], Some, IfOk, OnErr};
 ghost use Rattle.sf_turns.specs.declared.protocol.Stage.TheVariants as stage;
 ghost use Rattle.sf_turns.specs.declared.protocol.Token.{Token};

@@ -1,3 +1,5 @@
+//! Pixels with plain data about them, as a trait: what a turn promises to leave, and the next one
+//! expects to find.
 ghost use Rattle.std.specs.Prelude.{◌≡◌, IfOk};
 
 use sf_base::NoMemory;

@@ -1,3 +1,5 @@
+//! The rights to open buffers: a run's stock is cut into permits, one for each dequeue that may
+//! need a new buffer.
 ghost use Rattle.std.specs.Prelude.{◌≡◌, ◌<◌, ◌≤◌, false, ◌∷◌, length, take, drop, IfOk, IfErr, OnErr};
 ghost use Rattle.sf_turns.specs.Views.{first_turn};
 

@@ -1,3 +1,5 @@
+//! The last turn of a buffer's chain: it may enter once all before it have left, or be handed on
+//! first. Leases of `sf_surface` carry it.
 ghost use Rattle.std.specs.Arc.{arc_value};
 ghost use Rattle.std.specs.Prelude.{◌≡◌, ℕ, ◌<◌, ◌≤◌, ◌↔◌, false, [], Some, None, IfOk, IfErr, IsTrue, MatchResult};
 ghost use Rattle.sf_turns.specs.declared.protocol.Stage.TheVariants as stage;

@@ -20,6 +20,7 @@ pub record Contents (L : Type 0) : Type 0 where
   pub buffers : List (Buffer L)
   pub barriers : List (LayerId × ℕ)
 
+-- a transaction in which nothing was set
 abbrev pub empty : {L : Type 0} → Contents L
 empty = record { token = record { 0 = 0 }; desired = None; ops = []; buffers = []; barriers = [] }
 
@@ -66,6 +67,7 @@ show_op buffer = (buffer.layer, op.Show buffer.shown)
 abbrev pub set : {L : Type 0} → Contents L → LayerId × Op → Contents L
 set txn operation = record txn { ops = with_op txn.ops operation }
 
+-- a transaction that shows one more buffer
 abbrev pub set_buffer : {L : Type 0} → Contents L → Buffer L → Contents L
 set_buffer txn buffer = record txn { ops = with_op txn.ops (show_op buffer); buffers = with_buffer txn.buffers buffer }
 
@@ -108,6 +110,7 @@ abbrev pub shows : List (LayerId × Op) → List (LayerId × Shown)
 shows [] = []
 shows (operation ∷ ops) = shows_of operation.1 operation.0 ++ shows ops
 
+-- a buffer as its layer shows it
 abbrev pub shown_by : {L : Type 0} → Buffer L → LayerId × Shown
 shown_by buffer = (buffer.layer, buffer.shown)
 

@@ -1,3 +1,5 @@
+//! A buffer that a transaction shows on a layer, with its lease, and a look at whether its write
+//! has ended.
 use crate::lease::Lease;
 use sf_base::{Fence, LayerId};
 use sf_layer::Shown;

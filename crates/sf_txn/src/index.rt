@@ -1,3 +1,5 @@
+//! Where the operations of a long transaction are, so that one which replaces an earlier one finds
+//! it without a walk over all.
 ghost use Rattle.std.specs.List.{AllPairs, position_from};
 ghost use Rattle.std.specs.Prelude.{◌≡◌, ◌+◌, ◌<◌, ◌≤◌, ◌++◌, ◌∷◌, [], List, OnOk, IfOk, IfSome, IsSomeAnd, length, take, true};
 ghost use Rattle.std.specs.Vec.{vec_capacity, vec_len};
@@ -26,6 +28,7 @@ pub(crate) struct Index {
     pub(crate) front: usize,
 }
 
+/// Whether an operation is kept. The number 0 marks one that another took the place of.
 pub(crate) fn is_kept(operation: &(LayerId, Op)) -> bool
     ensures { result ≡ is_kept operation.now }
 {

@@ -1,3 +1,5 @@
+//! What a transaction needs of the right to a buffer's pixels, as a trait: `sf_surface` gives it by
+//! its read leases.
 ghost use Rattle.std.specs.Prelude.{◌≡◌, ℕ, ◌++◌, ◌∷◌, [], ◌↔◌, Bool, true, List, IfOk, IfErr, IsTrue};
 ghost use Rattle.sf_picture.specs.declared.picture.Picture.{Picture as PictureValue};
 ghost use Rattle.sf_txn.specs.Counts.{HasRisen};

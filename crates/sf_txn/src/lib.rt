@@ -14,5 +14,5 @@ mod transaction;
 
 pub use buffer::BufferOp;
 pub use lease::Lease;
-pub use sf_layer;
+pub use sf_layer::{Kind, Op, Parent, Shown};
 pub use transaction::{Parts, Transaction};

@@ -1,3 +1,5 @@
+//! The lists of a transaction, where a later operation or buffer takes the place of an earlier one
+//! of its kind.
 ghost use Rattle.std.specs.List.{AllPairs, position};
 ghost use Rattle.std.specs.Prelude.{◌≡◌, ◌+◌, ◌++◌, ◌<◌, ◌≤◌, IfSome, OnOk, Bool, find, length};
 ghost use Rattle.std.specs.Vec.{vec_capacity, vec_len};

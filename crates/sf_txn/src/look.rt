@@ -1,3 +1,4 @@
+//! A look at all buffers of a transaction, which a vsync makes before it decides.
 ghost use Rattle.std.specs.List.{All, AllZip};
 ghost use Rattle.std.specs.Prelude.{◌≡◌, ◌+◌, ◌++◌, ◌≤◌, [], length, map};
 ghost use Rattle.std.specs.Vec.{vec_capacity, vec_len};
@@ -7,7 +8,7 @@ use crate::buffer::BufferOp;
 use crate::lease::Lease;
 use crate::transaction::Transaction;
 
-// Looks once at each buffer, in order, and appends what each look showed.
+/// Looks once at each buffer, in order, and appends what each look showed.
 fn look_all<L: Lease>(buffers: &mut [BufferOp<L>], eye: &mut L::Eye, drawn: &mut Vec<bool>)
     requires fits { All (λ buffer. L.fits (L.mark eye.old) buffer.lease) buffers.old }
     requires room { vec_len drawn.old + length buffers.old ≤ vec_capacity drawn.old }

@@ -1,3 +1,4 @@
+//! Two transactions become one, as a client merges them before it applies them.
 ghost use Rattle.std.specs.Prelude.{◌≡◌, IfErr, IfOk};
 ghost use Rattle.sf_txn.specs.Transactions.{all_replaced, later_time, merged};
 

@@ -1,3 +1,5 @@
+//! The operations of a transaction in order, in which a later one takes the place of an earlier one
+//! of its kind; many of them are found by an index.
 ghost use Rattle.std.specs.Prelude.{◌≡◌, ◌+◌, ◌<◌, ◌≤◌, ◌++◌, [], IfOk, OnOk, IsTrue, IsFalse, length, replicate};
 ghost use Rattle.sf_txn.specs.Places.{taken};
 ghost use Rattle.sf_txn.specs.Transactions.{with_op, with_ops};

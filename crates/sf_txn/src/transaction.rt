@@ -1,3 +1,5 @@
+//! A transaction as a client fills it and the compositor takes it apart: operations, buffers,
+//! barriers, token and time.
 ghost use Rattle.std.specs.Prelude.{◌≡◌, ◌<◌, ◌++◌, ◌∷◌, [], Some, IfOk, IfErr, OnOk, OnErr};
 ghost use Rattle.sf_layer.specs.Ranges.{IsOperation};
 ghost use Rattle.sf_txn.specs.Transactions.{empty, IsTransaction, replaced_by, set, set_buffer, shows_of};

@@ -6,7 +6,7 @@ use Rattle.sf_tree.specs.sf_layer.declared.parent.Parent.{Parent}
 use Rattle.sf_tree.specs.sf_layer.declared.parent.Parent.TheVariants as parent
 use Rattle.sf_tree.specs.Layers.{layer_of, parent_layer}
 use Rattle.sf_tree.specs.Kept.{IsRanked}
-use Rattle.sf_tree.specs.Known.{Outranks}
+use Rattle.sf_tree.specs.inner.Known.{Outranks}
 use Rattle.sf_tree.proofs.ShowLemmas.{Outranks-parent}
 use Rattle.sf_tree.proofs.Ranks.{All-layer_of, layer_of-number}
 use Rattle.sf_base.specs.declared.ids.LayerId.{LayerId}

@@ -4,7 +4,7 @@ use Rattle.std.specs.Int.{int_max, int_min}
 use Rattle.std.specs.Prelude.{int_le, int_lt}
 use Rattle.sf_view.specs.declared.interval.Interval.{Interval}
 use Rattle.sf_base.specs.Geometry.{is_within}
-use Rattle.sf_view.specs.Intervals.{is_in_interval, HasExtent}
+use Rattle.sf_view.specs.inner.Intervals.{is_in_interval, HasExtent}
 use Rattle.std.proofs.lemmas.Int.{clamps, ints}
 use Rattle.std.proofs.lemmas.Bool.{true_from_ne_false}
 

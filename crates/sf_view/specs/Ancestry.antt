@@ -6,6 +6,7 @@ use Rattle.sf_base.specs.declared.geometry.Rect.{Rect}
 use Rattle.sf_tree.specs.sf_layer.declared.layer.Layer.{Layer}
 use Rattle.sf_tree.specs.Layers.{parent_layer}
 
+-- the way up from a layer, if it is there
 abbrev pub and_above : (Layer → List Layer) → Option Layer → List Layer
 and_above above None = []
 and_above above (Some layer) = above layer
@@ -15,6 +16,7 @@ abbrev pub ancestry_within : List Layer → ℕ → Layer → List Layer
 ancestry_within tree zero layer = []
 ancestry_within tree (suc steps) layer = layer ∷ and_above (ancestry_within tree steps) (parent_layer tree layer.parent)
 
+-- a layer and those above it, from the layer up
 unfoldable pub ancestry : List Layer → Layer → List Layer
 ancestry tree layer = ancestry_within tree (length tree) layer
 

@@ -20,6 +20,7 @@ box_of crop orient place = record {
 abbrev pub after_first : ℤ → ℤ → ℤ
 after_first start far = far +ℤ start
 
+-- the coordinate that lies as far before the last one of a span as this lies behind the first
 abbrev pub before_last : ℤ → ℕ → ℤ → ℤ
 before_last start extent far = (start +ℤ pos extent) +ℤ neg_ℤ (far +ℤ pos 1)
 

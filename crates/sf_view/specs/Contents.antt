@@ -25,6 +25,7 @@ content_of layer = by_kind layer.kind
     by_kind kind.Colour = Some (content.Colour layer.colour)
     by_kind kind.Buffer = of_buffer layer.shown
 
+-- a layer has something to show
 abbrev pub has_content : Layer → Bool
 has_content layer = is_some (content_of layer)
 

@@ -19,9 +19,11 @@ drawn_in tree order = filter has_content (filter_map (layer_of tree) order)
 abbrev pub layer_place : List Layer → Layer → ℤ × ℤ
 layer_place tree layer = place_of (ancestry tree layer)
 
+-- the alpha of a layer with those of the layers above it
 abbrev pub layer_alpha : List Layer → Layer → ℕ
 layer_alpha tree layer = alpha_of (ancestry tree layer)
 
+-- a point is in what a layer shows, if it shows something
 abbrev pub is_in_some : Option Content → ℕ → ℤ × ℤ → ℤ → ℤ → Bool
 is_in_some None orient place x y = false
 is_in_some (Some content) orient place x y = is_in_content content orient place x y
@@ -31,6 +33,7 @@ abbrev pub is_in_layer : List Layer → Layer → ℤ → ℤ → Bool
 is_in_layer tree layer x y =
     is_in_crops (ancestry tree layer) x y && is_in_some (content_of layer) layer.orient (layer_place tree layer) x y
 
+-- what a layer shows painted over a point, if it shows something
 abbrev pub paint_content : (ℕ → Picture) → List Layer → Layer → ℤ → ℤ → Rgba → Option Content → Rgba
 paint_content picture tree layer x y under None = under
 paint_content picture tree layer x y under (Some content) =

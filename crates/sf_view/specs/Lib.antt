@@ -4,9 +4,8 @@ pub mod Contents
 pub mod Image
 pub mod Views
 pub mod Stacks
-pub mod Intervals
-pub mod Clips
 pub mod Placements
+pub mod inner
 pub use Rattle.sf_tree.specs.Layers
 pub use Rattle.sf_tree.specs.DrawOrder
 pub use Rattle.sf_picture.specs.Pixels

@@ -6,7 +6,7 @@ use Rattle.sf_view.specs.declared.content.Content.{Content}
 use Rattle.sf_view.specs.declared.content.Content.TheVariants as content
 use Rattle.sf_view.specs.declared.placement.Placement.{Placement}
 use Rattle.sf_view.specs.Ancestry.{alpha_of, ancestry, is_in_crops, place_of}
-use Rattle.sf_view.specs.Intervals.{is_in_interval}
+use Rattle.sf_view.specs.inner.Intervals.{is_in_interval}
 
 -- a point is on the display
 abbrev pub is_in_display : ℕ → ℕ → ℤ → ℤ → Bool

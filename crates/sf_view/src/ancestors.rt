@@ -1,3 +1,4 @@
+//! The way up from a layer to the root.
 ghost use Rattle.std.specs.Prelude.{◌≡◌, IfOk};
 ghost use Rattle.sf_tree.specs.Layers.{parent_layer};
 ghost use Rattle.sf_view.specs.Ancestry.{ancestry};
@@ -7,7 +8,7 @@ use sf_tree::Tree;
 use sf_tree::sf_layer::{Layer, Parent};
 use std::alloc::Global;
 
-// The layer that a layer hangs from, if it is one.
+/// The layer that a layer hangs from, if it is one.
 fn parent_layer(tree: &Tree, parent: Parent) -> Option<Layer>
     ensures { result ≡ parent_layer tree.now.layers parent }
 {

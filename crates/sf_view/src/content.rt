@@ -1,3 +1,4 @@
+//! What a drawn layer shows: a colour, or a crop of a buffer.
 ghost use Rattle.std.specs.Prelude.{◌≡◌};
 ghost use Rattle.sf_view.specs.Contents.{content_of};
 
@@ -13,7 +14,7 @@ pub enum Content {
     Buffer(Shown),
 }
 
-// What a layer shows, if it shows anything.
+/// What a layer shows, if it shows anything.
 pub fn content_of(layer: &Layer) -> Option<Content>
     ensures { result ≡ content_of layer.now }
 {

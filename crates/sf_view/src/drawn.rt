@@ -1,3 +1,5 @@
+//! A layer as a display draws it: its content, place and alpha, and the part of the display that it
+//! may paint.
 use crate::content::Content;
 use sf_base::{LayerId, Rect};
 

@@ -1,6 +1,7 @@
+//! The pixels of a row or a column between two edges, by which crops are cut.
 ghost use Rattle.std.specs.Prelude.{◌≡◌, ◌&&◌, ℤ, pos, ◌≤◌, ◌≤ℤ◌, ◌+ℤ◌};
 ghost use Rattle.sf_base.specs.Geometry.{is_within};
-ghost use Rattle.sf_view.specs.Intervals.{is_in_interval, HasExtent};
+ghost use Rattle.sf_view.specs.inner.Intervals.{is_in_interval, HasExtent};
 
 // The pixels of a row or a column from one on and before another: none, where the other is not
 // greater.
@@ -11,7 +12,7 @@ pub struct Interval {
 }
 
 impl Interval {
-    // The pixels of this interval that are also among so many from a start on.
+    /// The pixels of this interval that are also among so many from a start on.
     #[tactic(auto, using(crate::proofs::IntervalLemmas::intervals))]
     pub fn cut(self, start: i32, extent: u32) -> Interval
         requires end { (start +ℤ pos extent) ≤ℤ pos 2147483647 }
@@ -26,7 +27,7 @@ impl Interval {
         }
     }
 
-    // How many pixels it has.
+    /// How many pixels it has.
     pub fn extent(self) -> u32
         requires low { pos 0 ≤ℤ self.from }
         ensures { HasExtent self result }
@@ -39,7 +40,7 @@ impl Interval {
     }
 }
 
-// The first pixel after so many from a start on.
+/// The first pixel after so many from a start on.
 fn end_of(start: i32, extent: u32) -> i32
     requires end { (start +ℤ pos extent) ≤ℤ pos 2147483647 }
     requires extent { extent ≤ 2147483647 }

@@ -1,3 +1,5 @@
+//! A law about views, called for its clauses alone: a view has the image of the layers that it is
+//! of.
 ghost use Rattle.std.specs.Prelude.{◌≡◌, ◌<◌, ℕ, List, pos};
 ghost use Rattle.sf_base.specs.declared.ids.LayerId.{LayerId as LayerIdValue};
 ghost use Rattle.sf_tree.specs.sf_layer.declared.layer.Layer.{Layer as LayerValue};

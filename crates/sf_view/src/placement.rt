@@ -1,3 +1,4 @@
+//! Where a layer lies on the display, by the places and crops of the layers above it.
 ghost use Rattle.std.specs.Prelude.{◌≡◌, ◌<◌, ◌≤◌, ◌∷◌, [], List, length, ℕ, ◌&&◌, ℤ, ◌+ℤ◌};
 ghost use Rattle.std.specs.List.{All};
 ghost use Rattle.sf_tree.specs.sf_layer.Ranges.{IsCrop};
@@ -33,7 +34,7 @@ fn moved(at: i32, by: i32) -> i32
 }
 
 impl Placement {
-    // The placement of the root.
+    /// The placement of the root.
     pub fn root(width: u32, height: u32) -> Placement
         requires { IsDisplay width height }
         ensures { IsPlaced width height [] result }
@@ -53,7 +54,7 @@ impl Placement {
         }
     }
 
-    // The placement of a layer below one with this placement.
+    /// The placement of a layer below one with this placement.
     pub fn below(self, layer: &Layer) -> Placement
         requires near { IsInReach 65535 self.x × IsInReach 65535 self.y }
         requires in_range { IsLayerInRange layer.now }
@@ -81,7 +82,7 @@ impl Placement {
     }
 }
 
-// How wide and high the box is in which a crop is shown.
+/// How wide and high the box is in which a crop is shown.
 fn box_size(crop: &Rect, orient: u8) -> (u32, u32)
     ensures { (place : ℤ × ℤ) → (result.0 ≡ (box_of crop.now orient place).width) × (result.1 ≡ (box_of crop.now orient place).height) }
 {
@@ -92,7 +93,7 @@ fn box_size(crop: &Rect, orient: u8) -> (u32, u32)
     }
 }
 
-// Cuts the bounds of a layer with this placement to what it shows.
+/// Cuts the bounds of a layer with this placement to what it shows.
 #[tactic(auto, unfolding(sf_base::specs::Geometry::covers))]
 pub fn cut_to_content(at: Placement, content: &Content, orient: u8) -> Placement
     requires near { IsInReach 65536 at.x × IsInReach 65536 at.y }

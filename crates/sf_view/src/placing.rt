@@ -1,7 +1,8 @@
+//! The placements of a tree's layers, each found once by way of its parent's.
 ghost use Rattle.std.specs.Prelude.{◌≡◌, ◌+◌, ◌<◌, length, slice_get};
 ghost use Rattle.sf_tree.specs.sf_layer.declared.layer.Layer.{Layer as LayerValue};
 ghost use Rattle.sf_tree.specs.Kept.{IsTree};
-ghost use Rattle.sf_tree.specs.Known.{Outranks};
+ghost use Rattle.sf_tree.specs.inner.Known.{Outranks};
 ghost use Rattle.sf_tree.specs.Layers.{layer_of, parent_layer};
 ghost use Rattle.sf_view.specs.Ancestry.{ancestry, and_above};
 ghost use Rattle.sf_view.specs.Placements.{AreFound, IsPlaced};
@@ -11,7 +12,7 @@ use crate::placement::Placement;
 use sf_tree::Tree;
 use sf_tree::sf_layer::{Layer, Parent};
 
-// The layer that stands at an index of the tree.
+/// The layer that stands at an index of the tree.
 pub fn layer_at(tree: &Tree, index: usize) -> Layer
     requires { index < length tree.now.layers }
     ensures layer { slice_get tree.now.layers index ≡ Some result }
@@ -20,8 +21,8 @@ pub fn layer_at(tree: &Tree, index: usize) -> Layer
     tree.layers()[index]
 }
 
-// The placement of the layer that stands at an index of the tree. It and those of its ancestors are
-// noted, so that each is found once. The steps bound how far up.
+/// The placement of the layer that stands at an index of the tree. It and those of its ancestors are
+/// noted, so that each is found once. The steps bound how far up.
 #[cycle(place)]
 pub fn place(
     tree: &Tree,
@@ -48,7 +49,7 @@ pub fn place(
     placement
 }
 
-// The placement of what a layer hangs from.
+/// The placement of what a layer hangs from.
 #[cycle(place)]
 fn place_parent(
     tree: &Tree,

@@ -1,8 +1,10 @@
+//! From a layer tree and an order of layers to what a display shows: composing, damage and hit
+//! tests go by this.
 ghost use Rattle.std.specs.Prelude.{◌≡◌, ◌≤◌, IfOk, List, pos, ◌≤ℤ◌};
 ghost use Rattle.sf_tree.specs.sf_layer.declared.layer.Layer.{Layer as LayerValue};
 ghost use Rattle.sf_tree.specs.Kept.{IsLayerInRange};
 ghost use Rattle.sf_view.specs.Ancestry.{ancestry};
-ghost use Rattle.sf_view.specs.Clips.{IsClipOf};
+ghost use Rattle.sf_view.specs.inner.Clips.{IsClipOf};
 ghost use Rattle.sf_view.specs.Contents.{content_of};
 ghost use Rattle.sf_view.specs.Placements.{IsPlaced, IsPlacement};
 ghost use Rattle.sf_view.specs.Views.{Draws, IsClip, IsDisplay, Views, ViewsInOrder};
@@ -37,7 +39,7 @@ impl Model for View {
     ghost invariant = { λ s. IsView (record { width = s.width; height = s.height; drawn = s.drawn }) };
 }
 
-// A clip of these pixels, which is empty where there are none.
+/// A clip of these pixels, which is empty where there are none.
 #[tactic(auto, unfolding(sf_base::specs::Geometry::covers))]
 fn clip_of(across: Interval, down: Interval) -> Rect
     requires left { pos 0 ≤ℤ across.from }
@@ -62,7 +64,7 @@ fn clip_of(across: Interval, down: Interval) -> Rect
     }
 }
 
-// A layer with this content and placement, as the display draws it.
+/// A layer with this content and placement, as the display draws it.
 fn draw_layer(layer: &Layer, content: Content, at: Placement, width: u32, height: u32) -> Drawn
     requires content { Some content ≡ content_of layer.now }
     requires in_range { IsLayerInRange layer.now }

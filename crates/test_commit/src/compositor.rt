@@ -1,3 +1,4 @@
+//! The compositor of a case, with what arrived for it and the pixels that it lent.
 ghost use Rattle.std.specs.Prelude.{◌≡◌, false};
 ghost use Rattle.sf_commit.specs.Handlers.{last_of};
 ghost use Rattle.sf_token.specs.Pending.{IsRisingFrom};
@@ -117,7 +118,7 @@ impl Drop for Compositor {
     }
 }
 
-// A vsync that takes what arrived. A handler that is not spent after it was not spent before it.
+/// A vsync that takes what arrived. A handler that is not spent after it was not spent before it.
 fn step(
     handler: &mut Handler<Page>,
     eye: &mut Writes,

@@ -1,3 +1,4 @@
+//! The arrivals of a case under a lock, with a pass for each of two actors.
 ghost use Rattle.std.specs.Prelude.{◌≡◌, true, Some, [], ◌∷◌};
 
 use sf_base::ActorId;
@@ -8,7 +9,7 @@ use std::marker::Brand;
 use std::sync::Wait;
 use test_leases::Page;
 
-// Makes a call under the lock.
+/// Makes a call under the lock.
 fn call<W: Wait>(
     rt: &W,
     lock: &CallLock<Arrivals<Page, Brand>>,

@@ -36,7 +36,7 @@ use std::alloc::Global;
 use std::io;
 use std::sync::Wait;
 
-// Does what a line of the input says, and prints what it answers.
+/// Does what a line of the input says, and prints what it answers.
 fn step<R: Print + Wait>(rt: &R, alloc: Global, run: &mut Run, line: &str) -> io::Result<()> {
     if line.is_empty() || line.starts_with('#') {
         return Ok(());

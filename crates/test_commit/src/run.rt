@@ -1,5 +1,6 @@
+//! A case of vsyncs: does what each of its lines says, and tells what that answers.
 ghost use Rattle.std.specs.Prelude.{IfSome};
-ghost use Rattle.test_commit.specs.Plain.{IsPlain};
+ghost use Rattle.test_commit.specs.inner.Plain.{IsPlain};
 
 use crate::compositor::Compositor;
 use crate::line::Line;
@@ -75,7 +76,7 @@ impl Run {
         }
     }
 
-    // The same of a line that makes no call under the lock.
+    /// The same of a line that makes no call under the lock.
     fn follow_alone(
         &mut self,
         form: &str,
@@ -96,13 +97,13 @@ impl Run {
         }
     }
 
-    // A case of the next name begins.
+    /// A case of the next name begins.
     fn begin(&mut self, words: &mut SplitWhitespace<'_>) -> Option<()> {
         *self = Run::new(self.alloc, words.next()?)?;
         Some(())
     }
 
-    // The next transaction shows a frame of queue 1.
+    /// The next transaction shows a frame of queue 1.
     fn show(&mut self, form: &str, words: &mut SplitWhitespace<'_>) -> Option<()> {
         let layer = layer(words)?;
         let frame = number64(words)?;
@@ -127,7 +128,7 @@ impl Run {
         Some(())
     }
 
-    // The next transaction, or what is told to whoever decides a hold, changes for a layer.
+    /// The next transaction, or what is told to whoever decides a hold, changes for a layer.
     fn change(&mut self, form: &str, words: &mut SplitWhitespace<'_>) -> Option<()> {
         let layer = layer(words)?;
         match form {
@@ -142,8 +143,8 @@ impl Run {
         Some(())
     }
 
-    // A time, what was observed, or what is told to whoever decides a hold, of no layer; or a
-    // change for a layer.
+    /// A time, what was observed, or what is told to whoever decides a hold, of no layer; or a
+    /// change for a layer.
     fn observe(&mut self, form: &str, words: &mut SplitWhitespace<'_>) -> Option<()> {
         match form {
             "desire" => self.next.desire(number64(words)?),
@@ -159,7 +160,7 @@ impl Run {
         Some(())
     }
 
-    // What holds the next transaction; None where its buffers have more marks or fewer.
+    /// What holds the next transaction; None where its buffers have more marks or fewer.
     fn ask(&mut self, words: &mut SplitWhitespace<'_>, told: &mut String) -> Option<()> {
         let expected = number64(words)?;
         let drawn = marks(self.alloc, words)?;
@@ -173,7 +174,7 @@ impl Run {
         }
     }
 
-    // The next transaction arrives.
+    /// The next transaction arrives.
     fn send<W: Wait>(
         &mut self,
         rt: &W,
@@ -194,7 +195,7 @@ impl Run {
         }
     }
 
-    // What arrived is taken by an actor's pass.
+    /// What arrived is taken by an actor's pass.
     fn take<W: Wait>(&mut self, rt: &W, actor: ActorId) -> Option<Vec<Arrived<Page>>> {
         match self.line.call(rt, actor, ArriveCall::Take)? {
             ArriveReply::Batch(batch) => Some(batch.list),
@@ -205,7 +206,7 @@ impl Run {
         }
     }
 
-    // What arrived goes into the queues, if its numbers rise.
+    /// What arrived goes into the queues, if its numbers rise.
     fn queue<W: Wait>(
         &mut self,
         rt: &W,
@@ -223,7 +224,7 @@ impl Run {
         Some(())
     }
 
-    // All that arrived, out of the lock; then it is under a lock again.
+    /// All that arrived, out of the lock; then it is under a lock again.
     fn reopen(&mut self, told: &mut String) -> Option<()> {
         let other = Line::open(self.alloc, Arrivals::new(self.alloc).ok()?)?;
         let arrivals = mem::replace(&mut self.line, other).close()?;
@@ -232,19 +233,19 @@ impl Run {
         Some(())
     }
 
-    // What whoever knows of so many ended writes sees of the pages in the queues.
+    /// What whoever knows of so many ended writes sees of the pages in the queues.
     fn look(&mut self, words: &mut SplitWhitespace<'_>, told: &mut String) -> Option<()> {
         self.eye.count = number32(words)?;
         let looks = self.queues.look(&mut self.eye).ok()?;
         tell_looks(told, &looks).ok()
     }
 
-    // The tokens with something in the queues.
+    /// The tokens with something in the queues.
     fn tokens(&self, told: &mut String) -> Option<()> {
         tell_tokens(told, &self.queues.tokens().ok()?).ok()
     }
 
-    // What is found in the queues.
+    /// What is found in the queues.
     fn find(
         &mut self,
         form: &str,
@@ -263,7 +264,7 @@ impl Run {
         }
     }
 
-    // A vsync that takes what arrived, and what it did.
+    /// A vsync that takes what arrived, and what it did.
     fn vsync<W: Wait>(
         &mut self,
         rt: &W,
@@ -286,7 +287,7 @@ impl Run {
         tell_reads(told, self.alloc, &mut self.eye.ends).ok()
     }
 
-    // The pixels are given back, and what they show then.
+    /// The pixels are given back, and what they show then.
     fn give(&mut self, told: &mut String) -> Option<()> {
         self.compositor.give_back(&mut self.eye)?;
         told.push_str("given back\n").ok()?;
@@ -295,7 +296,7 @@ impl Run {
     }
 }
 
-// The operation of a form.
+/// The operation of a form.
 fn operation(form: &str) -> Option<Op>
     ensures { IfSome result IsPlain }
 {
@@ -308,7 +309,7 @@ fn operation(form: &str) -> Option<Op>
     }
 }
 
-// The marks of buffers: whether the write of each has ended.
+/// The marks of buffers: whether the write of each has ended.
 fn marks(alloc: Global, words: &mut SplitWhitespace<'_>) -> Option<Vec<bool>> {
     let mut marks = Vec::new(alloc);
     for word in words {
@@ -317,7 +318,7 @@ fn marks(alloc: Global, words: &mut SplitWhitespace<'_>) -> Option<Vec<bool>> {
     Some(marks)
 }
 
-// The number of a token's first transaction in the queues, or the token of the one of a number.
+/// The number of a token's first transaction in the queues, or the token of the one of a number.
 fn found(queues: &mut TokenQueues<Page>, form: &str, number: u32) -> Option<u32> {
     match form {
         "head" => Some(queues.head(TokenId(number))?.number),

@@ -1,3 +1,4 @@
+//! What calls answered and what vsyncs did, as lines of text.
 use sf_base::{Fence, TimelineId, TokenId};
 use sf_commit::{Commit, Release, Vsync};
 use sf_picture::Painted;
@@ -36,7 +37,7 @@ pub fn tell_tokens(told: &mut String, tokens: &[TokenId]) -> Result<(), AllocErr
     writeln!(told)
 }
 
-// What one look at each buffer of a transaction showed.
+/// What one look at each buffer of a transaction showed.
 fn tell_look(told: &mut String, look: &Looks) -> Result<(), AllocError> {
     write!(told, " {}", look.number)?;
     for is_drawn in look.drawn.as_slice() {
@@ -54,7 +55,7 @@ pub fn tell_looks(told: &mut String, looks: &[Looks]) -> Result<(), AllocError> 
     writeln!(told)
 }
 
-// A commit: its number and token, and why it was rejected, if it was.
+/// A commit: its number and token, and why it was rejected, if it was.
 fn tell_commit(told: &mut String, commit: &Commit) -> Result<(), AllocError> {
     let (number, cause, op) = (commit.number, commit.cause, commit.op);
     write!(told, "  commit {number} of token {}", commit.token.0)?;
@@ -67,7 +68,7 @@ fn tell_commit(told: &mut String, commit: &Commit) -> Result<(), AllocError> {
     writeln!(told)
 }
 
-// The points of a fence.
+/// The points of a fence.
 fn tell_fence(told: &mut String, fence: &Fence) -> Result<(), AllocError> {
     for timeline in 1..65 {
         let value = fence.value(TimelineId(timeline));
@@ -78,7 +79,7 @@ fn tell_fence(told: &mut String, fence: &Fence) -> Result<(), AllocError> {
     writeln!(told)
 }
 
-// A frame that goes back, with its page.
+/// A frame that goes back, with its page.
 fn tell_release(told: &mut String, release: &Release<Page>) -> Result<(), AllocError> {
     let (queue, frame) = (release.queue.0, release.frame);
     let (page, turn) = (release.lease.number(), release.lease.turn());
@@ -89,7 +90,7 @@ fn tell_release(told: &mut String, release: &Release<Page>) -> Result<(), AllocE
     tell_fence(told, &release.fence)
 }
 
-// What is held, and by what.
+/// What is held, and by what.
 fn tell_held(told: &mut String, held: &[(u32, Hold)]) -> Result<(), AllocError> {
     for (number, hold) in held {
         writeln!(told, "  held {number}: {} {hold:?}", hold.number())?;
@@ -133,7 +134,7 @@ pub fn tell_pixels(told: &mut String, contents: &[Painted]) -> Result<(), AllocE
     Ok(())
 }
 
-// The reads that ended, in their order.
+/// The reads that ended, in their order.
 fn reads(alloc: Global, ends: &mut Ends) -> Result<Vec<(u32, u64)>, AllocError> {
     let mut reads = Vec::new(alloc);
     while let Some(end) = ends.take_last() {

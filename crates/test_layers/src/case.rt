@@ -1,3 +1,5 @@
+//! A case of layers, transactions and pixels: does what each of its lines says, and prints what
+//! that answers.
 use crate::answer::Answer;
 use crate::made::Made;
 use crate::{answer, compose, fill, frames, operation, read, scene, show};

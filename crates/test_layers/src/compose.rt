@@ -1,3 +1,4 @@
+//! Composes what a line asks for, by the ways that there are to compose a part of a frame.
 ghost use Rattle.std.specs.List.{AllZip};
 ghost use Rattle.std.specs.Prelude.{◌≡◌, ◌≤◌, IfSome, IsTrue};
 ghost use Rattle.sf_base.specs.Geometry.{IsWithin, LiesWithin};
@@ -93,6 +94,8 @@ fn source(content: &Content, contents: &[Painted]) -> Option<u32>
     }
 }
 
+/// For each drawn layer the number of its picture among the contents, 0 for a colour; None where
+/// one is missing.
 fn sources(alloc: Global, drawn: &[Drawn], contents: &[Painted]) -> Option<Vec<u32>>
     ensures { IfSome result (λ list. AllZip (λ drawn source. IsReadable contents.now drawn.content source) drawn.now list.items) }
 {

@@ -21,7 +21,7 @@ impl Made {
         Some(Answer::Done)
     }
 
-    // Adds a point to a fence, or observes a timeline.
+    /// Adds a point to a fence, or observes a timeline.
     fn tell(&mut self, form: &str, words: &mut SplitWhitespace<'_>) -> Option<()> {
         let (timeline, value) = point(words)?;
         match form {

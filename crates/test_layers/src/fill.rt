@@ -1,3 +1,4 @@
+//! Fills and merges the transactions of a case, and prints them.
 ghost use Rattle.std.specs.Prelude.{◌≡◌, ◌<◌, [], IsTrue, IfOk};
 ghost use Rattle.sf_layer.specs.Ranges.{IsOperation};
 ghost use Rattle.sf_txn.specs.Transactions.{shows_of};

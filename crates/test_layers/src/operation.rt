@@ -1,3 +1,4 @@
+//! The reader of an operation on a layer.
 use sf_base::{LayerId, QueueId, Rect};
 use sf_layer::{Kind, Op, Parent, Shown};
 use std::str::SplitWhitespace;

@@ -39,7 +39,7 @@ impl Made {
         Some(Answer::Done)
     }
 
-    // A copy of the uppermost picture, a blank one, or one without fills of a format, a number and a size.
+    /// A copy of the uppermost picture, a blank one, or one without fills of a format, a number and a size.
     fn drawn(&self, form: &str, words: &mut SplitWhitespace<'_>) -> Option<Picture> {
         match form {
             "copy" => self.pictures.last()?.copy(self.alloc).ok(),
@@ -57,8 +57,8 @@ impl Made {
         }
     }
 
-    // Compares the upper two pictures, which are taken, asks for a pixel of the uppermost, or for
-    // what was painted last.
+    /// Compares the upper two pictures, which are taken, asks for a pixel of the uppermost, or for
+    /// what was painted last.
     fn ask_picture(&mut self, form: &str, words: &mut SplitWhitespace<'_>) -> Option<Answer> {
         match form {
             "same" => {
@@ -74,7 +74,7 @@ impl Made {
         }
     }
 
-    // Takes the uppermost picture.
+    /// Takes the uppermost picture.
     fn take_picture(&mut self) -> Option<Picture>
         ensures { IfSome result (λ picture. HasSize picture) }
     {
@@ -87,7 +87,7 @@ impl Made {
     }
 }
 
-// A pixel of a picture.
+/// A pixel of a picture.
 fn pixel(picture: &Picture, words: &mut SplitWhitespace<'_>) -> Option<Answer> {
     let (x, y) = (number32(words)?, number32(words)?);
     if is_buffer_size(picture.width, picture.height) && x < picture.width && y < picture.height {
@@ -97,7 +97,7 @@ fn pixel(picture: &Picture, words: &mut SplitWhitespace<'_>) -> Option<Answer> {
     }
 }
 
-// The pixels with another picture, where it has their size.
+/// The pixels with another picture, where it has their size.
 fn repainted(painted: Painted, picture: Picture) -> Option<Painted>
     requires { HasSize picture }
 {
@@ -109,7 +109,7 @@ fn repainted(painted: Painted, picture: Picture) -> Option<Painted>
     }
 }
 
-// The sums of the four channels over all pixels.
+/// The sums of the four channels over all pixels.
 fn sums(bytes: &[u8]) -> [u64; 4] {
     let mut sums = [0u64; 4];
     for (at, byte) in bytes.iter().enumerate() {

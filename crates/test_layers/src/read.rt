@@ -1,3 +1,4 @@
+//! Takes a transaction apart and reads its buffers, as a compositor does.
 ghost use Rattle.std.specs.Prelude.{◌≡◌, ◌≤◌, IfOk};
 
 use sf_base::NoMemory;

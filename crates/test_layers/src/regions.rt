@@ -26,7 +26,7 @@ impl Made {
         Some(Answer::Done)
     }
 
-    // What comes of the upper two, which are taken.
+    /// What comes of the upper two, which are taken.
     fn combined(&mut self, form: &str) -> Option<Region> {
         let second = self.regions.pop()?;
         let first = self.regions.pop()?;
@@ -38,8 +38,8 @@ impl Made {
         region.ok()
     }
 
-    // Whether the upper two, which are taken, are the same; whether the uppermost has a point, or its
-    // rectangles.
+    /// Whether the upper two, which are taken, are the same; whether the uppermost has a point, or its
+    /// rectangles.
     fn ask_region(&mut self, form: &str, words: &mut SplitWhitespace<'_>) -> Option<Answer> {
         match form {
             "same" => {
@@ -59,13 +59,14 @@ impl Made {
     }
 }
 
-// Whether so many coordinates from a start on lie within 2^25 of 0.
+/// Whether so many coordinates from a start on lie within 2^25 of 0.
 fn is_span_in_bounds(start: i64, extent: u32) -> bool
     ensures { IsTrue result → ((pos 0 -ℤ pos 33554432) ≤ℤ start) × ((start +ℤ pos extent) ≤ℤ pos 33554432) }
 {
     -FAR <= start && start <= FAR && start + i64::from(extent) <= FAR
 }
 
+/// Whether a rectangle lies within the bounds that regions demand.
 fn is_in_bounds(rect: &Rect) -> bool
     ensures { IsTrue result → IsInBounds rect.now }
 {
@@ -73,6 +74,7 @@ fn is_in_bounds(rect: &Rect) -> bool
         && is_span_in_bounds(i64::from(rect.y), rect.height)
 }
 
+/// Whether it does so when it is moved.
 #[tactic(auto, unfolding(sf_region::specs::Points::moved))]
 fn stays_in_bounds(rect: &Rect, dx: i32, dy: i32) -> bool
     ensures { IsTrue result → IsInBounds (moved dx dy rect.now) }
@@ -90,7 +92,7 @@ pub fn bounded(alloc: Global, rect: Rect) -> Option<Region> {
     }
 }
 
-// The region of a rectangle, moved.
+/// The region of a rectangle, moved.
 fn translated(alloc: Global, rect: Rect, dx: i32, dy: i32) -> Result<Region, NoMemory>
     requires near { IsInBounds rect }
     requires moved { IsInBounds (moved dx dy rect) }
@@ -98,7 +100,7 @@ fn translated(alloc: Global, rect: Rect, dx: i32, dy: i32) -> Result<Region, NoM
     Region::rect(alloc, rect)?.translate(dx, dy)
 }
 
-// The region of the rectangle that a line says, moved as it says.
+/// The region of the rectangle that a line says, moved as it says.
 fn moved_rect(alloc: Global, words: &mut SplitWhitespace<'_>) -> Option<Region> {
     let rect = rect(words)?;
     let (dx, dy) = (coordinate(words)?, coordinate(words)?);

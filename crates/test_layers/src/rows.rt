@@ -32,7 +32,7 @@ impl Made {
         Some(Answer::Done)
     }
 
-    // Paints over a copy of the frame's row.
+    /// Paints over a copy of the frame's row.
     fn paint_row(&self, form: &str, words: &mut SplitWhitespace<'_>) -> Option<Answer> {
         let mut row = Vec::from_slice(self.alloc, &self.frame).ok()?;
         if row.len() != self.source.len() || row.len() % 4 != 0 {
@@ -46,7 +46,7 @@ impl Made {
         Some(Answer::Bytes(row))
     }
 
-    // Picks the source's pixels from its end back, or every fourth of them.
+    /// Picks the source's pixels from its end back, or every fourth of them.
     fn pick(&self, form: &str) -> Option<Answer> {
         let source = self.source.as_slice();
         if source.is_empty() || source.len() >= 4096 || source.len() % 4 != 0 {
@@ -61,7 +61,7 @@ impl Made {
     }
 }
 
-// The bytes of the pixels of the colours that a line says.
+/// The bytes of the pixels of the colours that a line says.
 fn pixels(alloc: Global, words: &mut SplitWhitespace<'_>) -> Option<Vec<u8>> {
     let mut bytes = Vec::new(alloc);
     for _ in 0..MOST_PIXELS {
@@ -73,7 +73,7 @@ fn pixels(alloc: Global, words: &mut SplitWhitespace<'_>) -> Option<Vec<u8>> {
     Some(bytes)
 }
 
-// The pixels of a row from the last to the first.
+/// The pixels of a row from the last to the first.
 fn picked_back(alloc: Global, source: &[u8]) -> Result<Vec<u8>, AllocError>
     requires some { 0 < length source.now }
     requires few { length source.now < 4096 }
@@ -84,7 +84,7 @@ fn picked_back(alloc: Global, source: &[u8]) -> Result<Vec<u8>, AllocError>
     Ok(row)
 }
 
-// The first pixel of a row, and every fourth one after it: a column of a picture four pixels wide.
+/// The first pixel of a row, and every fourth one after it: a column of a picture four pixels wide.
 fn every_fourth(alloc: Global, source: &[u8]) -> Result<Vec<u8>, AllocError>
     requires few { length source.now < 4096 }
     requires whole { length source.now % 4 ≡ 0 }
@@ -94,7 +94,7 @@ fn every_fourth(alloc: Global, source: &[u8]) -> Result<Vec<u8>, AllocError>
     Ok(row)
 }
 
-// The product of two channels, a pixel over another, or what is seen of a colour in a format.
+/// The product of two channels, a pixel over another, or what is seen of a colour in a format.
 fn blended(form: &str, words: &mut SplitWhitespace<'_>) -> Option<Answer> {
     match form {
         "mul" => Some(Answer::Channel(mul(number8(words)?, number8(words)?))),

@@ -1,3 +1,4 @@
+//! Applies operations to the tree of a case, and makes the views that a line asks for.
 ghost use Rattle.std.specs.List.{All};
 ghost use Rattle.std.specs.Prelude.{◌≡◌, ◌≤◌, IfSome, IsTrue, length};
 ghost use Rattle.sf_layer.specs.Ranges.{IsOperation};

@@ -1,3 +1,4 @@
+//! Views, operations, rectangles and pixels as lines of text.
 use sf_base::{LayerId, Rect};
 use sf_layer::{Kind, Op, Parent, Shown};
 use sf_view::{Content, Drawn, View};
@@ -59,6 +60,7 @@ fn kind_name(kind: Kind) -> &'static str {
     }
 }
 
+/// Prints an operation that moves a layer in the tree.
 fn moving(rt: &impl Print, op: &Op) -> io::Result<()> {
     match *op {
         Op::Create(kind, above) => {
@@ -82,6 +84,7 @@ pub fn flag_name(flag: bool) -> &'static str {
     if flag { "yes" } else { "no" }
 }
 
+/// Prints an operation that changes how a layer looks.
 fn looking(rt: &impl Print, op: &Op) -> io::Result<()> {
     match op {
         Op::Crop(None) => print!(rt; " uncrop"),
@@ -122,6 +125,7 @@ pub fn rects(rt: &impl Print, rects: &[Rect]) -> io::Result<()> {
     println!(rt)
 }
 
+/// Prints so many pixels of one colour as one line.
 fn print_run(rt: &impl Print, count: u32, pixel: Option<[u8; 4]>) -> io::Result<()> {
     let Some(pixel) = pixel else {
         return Ok(());

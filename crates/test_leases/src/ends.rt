@@ -1,3 +1,4 @@
+//! The ends of reads, noted in the order in which the reads ended.
 ghost use Rattle.std.specs.Prelude.{◌≡◌, ◌++◌, ◌∷◌, [], IfSome, IsNone};
 
 use std::marker::Model;

@@ -1,3 +1,4 @@
+//! A lease of one pixel, for cases that read buffers without a queue.
 ghost use Rattle.std.specs.Prelude.{◌≡◌, IfOk, false};
 ghost use Rattle.test_leases.specs.Pages.{page_of, picture_of};
 

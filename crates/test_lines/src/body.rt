@@ -1,3 +1,4 @@
+//! Reads numbers out of the body of a record.
 ghost use Rattle.std.specs.Prelude.{◌≡◌, ◌<◌, ◌↔◌, IsErr, OnOk, drop, length};
 
 use crate::Width;
@@ -9,6 +10,7 @@ pub struct Body<'a> {
     pub rest: &'a [u8],
 }
 
+/// The fault of a body that ends too early.
 fn cut() -> io::Error {
     io::Error::from(io::ErrorKind::UnexpectedEof)
 }

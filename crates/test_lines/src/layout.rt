@@ -1,3 +1,5 @@
+//! What the body of each kind of record has.
+
 /// How many bytes a number of a record has.
 pub type Width = usize;
 

@@ -1,3 +1,4 @@
+//! Records as lines of text.
 use crate::body::Body;
 use crate::layout::{Layout, TAGS, Tail, Width, layout_of};
 use crate::records::Records;
@@ -54,6 +55,7 @@ fn push_hex(line: &mut String, bytes: &[u8]) -> io::Result<()> {
     Ok(())
 }
 
+/// Appends so many equal pixels as their count and one of them.
 fn push_run(line: &mut String, count: u64, pixel: &[u8]) -> io::Result<()> {
     if count > 0 {
         write!(line, " {count}*")?;
@@ -62,7 +64,7 @@ fn push_run(line: &mut String, count: u64, pixel: &[u8]) -> io::Result<()> {
     Ok(())
 }
 
-// Runs of equal pixels, all rows as one.
+/// Runs of equal pixels, all rows as one.
 fn push_pixels(line: &mut String, pixels: &[u8]) -> io::Result<()> {
     let mut last: &[u8] = &[];
     let mut count = 0u64;
@@ -86,6 +88,7 @@ fn push_record(text: &mut String, tag: &str, layout: Layout, body: &[u8]) -> io:
     Ok(())
 }
 
+/// Appends the line of a last record that was cut off.
 fn push_cut(text: &mut String, bytes: &[u8]) -> io::Result<()> {
     text.push_str("CUT ")?;
     push_hex(text, bytes)?;
@@ -93,7 +96,7 @@ fn push_cut(text: &mut String, bytes: &[u8]) -> io::Result<()> {
     Ok(())
 }
 
-// How many records with this tag there are.
+/// How many records with this tag there are.
 fn count(bytes: &[u8], tag: &str) -> u64 {
     let mut count = 0u64;
     for (first, _) in (Records { rest: bytes }) {
@@ -104,7 +107,7 @@ fn count(bytes: &[u8], tag: &str) -> u64 {
     count
 }
 
-// How many bytes of a record with this tag stand before the pixels of a frame, if it has one.
+/// How many bytes of a record with this tag stand before the pixels of a frame, if it has one.
 fn bytes_before_frame(tag: &str) -> Option<usize> {
     match tag {
         "FRAM" => Some(4),
@@ -113,7 +116,7 @@ fn bytes_before_frame(tag: &str) -> Option<usize> {
     }
 }
 
-// The sum of the bytes of all frames' pixels.
+/// The sum of the bytes of all frames' pixels.
 fn pixel_sum(bytes: &[u8]) -> u64 {
     let mut sum = 0u64;
     for (tag, body) in (Records { rest: bytes }) {

@@ -1,3 +1,4 @@
+//! Cuts bytes into whole records.
 ghost use Rattle.std.specs.Prelude.{◌<◌, IfSome, length};
 
 use crate::body::Body;
@@ -9,7 +10,7 @@ pub struct Records<'a> {
     pub rest: &'a [u8],
 }
 
-// The tag, the body and what follows of the first record, if it is whole.
+/// The tag, the body and what follows of the first record, if it is whole.
 fn split_record(bytes: &[u8]) -> Option<(&str, &[u8], &[u8])>
     ensures { IfSome result (λ parts. length parts.2.now < length bytes.now) }
 {

@@ -1,3 +1,4 @@
+//! The runs that are made of each script: their words, and which reads and writes fail.
 use std::{fs, io};
 
 /// A run of a script: its words, and the numbers of the reads and of the writes that fail.
@@ -36,7 +37,7 @@ fn has_beside(rt: &HostRuntime, name: &str, ending: &str) -> io::Result<bool> {
     fs::exists(rt, path.as_str())
 }
 
-// The text of the file that lies beside a script, empty where there is none.
+/// The text of the file that lies beside a script, empty where there is none.
 fn text_beside(rt: &HostRuntime, name: &str, ending: &str) -> io::Result<String> {
     if has_beside(rt, name, ending)? {
         let path = format!(in rt.alloc(); "{name}.{ending}")?;
@@ -54,7 +55,7 @@ fn words(rt: &HostRuntime, name: &str) -> io::Result<Vec<String>> {
     Ok(words)
 }
 
-// Appends as many signs of a comment as are missing to the length that is given beside the script.
+/// Appends as many signs of a comment as are missing to the length that is given beside the script.
 fn lengthen(rt: &HostRuntime, name: &str, script: &mut Vec<u8>) -> io::Result<()> {
     if let Ok(length) = text_beside(rt, name, "length")?.trim().parse::<u32>() {
         let missing = (length as usize).saturating_sub(script.len());
@@ -63,7 +64,7 @@ fn lengthen(rt: &HostRuntime, name: &str, script: &mut Vec<u8>) -> io::Result<()
     Ok(())
 }
 
-// Appends a line, in which a semicolon stands for the end of a line.
+/// Appends a line, in which a semicolon stands for the end of a line.
 fn push_line(script: &mut Vec<u8>, line: &str) -> io::Result<()> {
     for byte in line.as_bytes() {
         script.push(if *byte == b';' { b'\n' } else { *byte })?;
@@ -71,7 +72,7 @@ fn push_line(script: &mut Vec<u8>, line: &str) -> io::Result<()> {
     Ok(())
 }
 
-// The script of this name and a line behind it.
+/// The script of this name and a line behind it.
 fn script(rt: &HostRuntime, name: &str, line: &str) -> io::Result<Vec<u8>> {
     let path = format!(in rt.alloc(); "{name}.sf")?;
     let mut script = fs::read(rt, path.as_str())?;
@@ -80,7 +81,7 @@ fn script(rt: &HostRuntime, name: &str, line: &str) -> io::Result<Vec<u8>> {
     Ok(script)
 }
 
-// The number behind this word, if the line begins with it.
+/// The number behind this word, if the line begins with it.
 fn number_after(rt: &HostRuntime, line: &str, word: &str) -> io::Result<Vec<u64>> {
     let mut numbers = Vec::new(rt.alloc());
     if let Some((kind, number)) = line.split_once(' ') {
@@ -94,7 +95,7 @@ fn number_after(rt: &HostRuntime, line: &str, word: &str) -> io::Result<Vec<u64>
     Ok(numbers)
 }
 
-// The run of this script with a line behind it, or with a call that fails.
+/// The run of this script with a line behind it, or with a call that fails.
 fn case_with(rt: &HostRuntime, name: &str, line: &str, failing: &str) -> io::Result<Case> {
     let title = if line.is_empty() && failing.is_empty() {
         String::from_str(rt.alloc(), name)?

@@ -1,3 +1,4 @@
+//! Gates at which two actors meet before their steps, or rest.
 use sf_io::Gate;
 use std::alloc::Global;
 use std::sync::atomic::{AtomicBool, AtomicU32, Ordering};
@@ -83,12 +84,13 @@ impl MeetingGate {
         passes.into_inner()
     }
 
-    // Want of memory leaves the step out, which shows as one that is missing.
+    /// Want of memory leaves the step out, which shows as one that is missing.
     fn note<R: Wait>(&self, rt: &R, actor: u32, step: u32) {
         let mut passes = self.passes.lock(rt);
         let _ = passes.push((u64::from(actor), u64::from(step)));
     }
 
+    /// Notes that this side came to a step, and waits for the other side, up to a number of looks.
     fn meet(&self, mine: &Side, others: &Side, step: u32) {
         mine.entered.store(step, Ordering::SeqCst);
         let awaited = step.saturating_add(mine.ahead);

@@ -1,3 +1,4 @@
+//! Live runs with gates, and what of them is the same under every schedule.
 use crate::gate::{MeetingGate, SlowGate, StepOf};
 use sf_app::run;
 use sf_io::{Gate, MemSink, MemSource, OpenGate};
@@ -18,8 +19,8 @@ const LIVE: &[&str] = &["--run=live"];
 
 const LIVE_QUEUE: &[&str] = &["--run=live", "--intake=queue"];
 
-// Runs the script of this name with words and a gate, into a sink of which some writes fail: the
-// status, and the sink with what was written.
+/// Runs the script of this name with words and a gate, into a sink of which some writes fail: the
+/// status, and the sink with what was written.
 fn run_with<R: Files + AllocGlobal + Threads + Wait + Sync, G: Gate + Sync>(
     rt: &R,
     name: &str,
@@ -39,7 +40,7 @@ fn run_with<R: Files + AllocGlobal + Threads + Wait + Sync, G: Gate + Sync>(
     Ok((status, sink))
 }
 
-// Runs the script of this name live.
+/// Runs the script of this name live.
 fn run_live<R: Files + AllocGlobal + Threads + Wait + Sync, G: Gate + Sync>(
     rt: &R,
     name: &str,
@@ -49,7 +50,7 @@ fn run_live<R: Files + AllocGlobal + Threads + Wait + Sync, G: Gate + Sync>(
     run_with(rt, name, LIVE, failing_writes, gate)
 }
 
-// The steps that have replies, and then those at which actors are stuck.
+/// The steps that have replies, and then those at which actors are stuck.
 fn steps_in(alloc: Global, records: &[u8]) -> io::Result<Vec<StepOf>> {
     let mut steps = Vec::new(alloc);
     for (tag, body) in (Records { rest: records }) {
@@ -68,14 +69,14 @@ fn steps_in(alloc: Global, records: &[u8]) -> io::Result<Vec<StepOf>> {
     Ok(steps)
 }
 
-// Prints whether something holds.
+/// Prints whether something holds.
 fn say<R: Print>(rt: &R, claim: &str, holds: bool) -> io::Result<()> {
     let answer = if holds { "yes" } else { "no" };
     println!(rt; "{claim}: {answer}")
 }
 
-// Runs a script live at whose gate actors meet, and prints what came of it: the records too, where
-// every schedule writes the same.
+/// Runs a script live at whose gate actors meet, and prints what came of it: the records too, where
+/// every schedule writes the same.
 fn show_meeting<R: Files + AllocGlobal + Print + Threads + Wait + Sync>(
     rt: &R,
     name: &str,
@@ -98,21 +99,21 @@ fn show_meeting<R: Files + AllocGlobal + Print + Threads + Wait + Sync>(
     print!(rt; "{text}")
 }
 
-// Whether these bytes could be the beginning of a record.
+/// Whether these bytes could be the beginning of a record.
 fn begins_record(bytes: &[u8]) -> bool {
     let tag = &bytes[..bytes.len().min(4)];
     TAGS.iter().any(|known| known.as_bytes().starts_with(tag))
 }
 
-// Whether what was written is whole records, and then at most one that is cut.
+/// Whether what was written is whole records, and then at most one that is cut.
 fn is_cut_once(bytes: &[u8]) -> bool {
     let mut records = Records { rest: bytes };
     let are_known = records.all(|(tag, _)| TAGS.contains(&tag));
     are_known && begins_record(records.rest)
 }
 
-// Runs live two actors that each send a transaction off, into a sink that fails at one write after the
-// other, and prints the statuses.
+/// Runs live two actors that each send a transaction off, into a sink that fails at one write after the
+/// other, and prints the statuses.
 fn show_failing<R: Files + AllocGlobal + Print + Threads + Wait + Sync>(rt: &R) -> io::Result<()> {
     for place in 1..=FAILING_WRITES {
         let write = vec![in rt.alloc(); place]?;
@@ -127,7 +128,7 @@ fn show_failing<R: Files + AllocGlobal + Print + Threads + Wait + Sync>(rt: &R) 
     Ok(())
 }
 
-// The number of the last vsync that committed something.
+/// The number of the last vsync that committed something.
 fn last_vsync(records: &[u8]) -> io::Result<u64> {
     let mut last = 0;
     for (tag, body) in (Records { rest: records }) {
@@ -138,8 +139,8 @@ fn last_vsync(records: &[u8]) -> io::Result<u64> {
     Ok(last)
 }
 
-// Runs live an actor with many steps that no one else can see, and then a transaction. It rests before
-// each; the compositor looks at the start alone, and at what was sent.
+/// Runs live an actor with many steps that no one else can see, and then a transaction. It rests before
+/// each; the compositor looks at the start alone, and at what was sent.
 fn show_unseen<R: Files + AllocGlobal + Print + Threads + Wait + Sync>(rt: &R) -> io::Result<()> {
     let name = "steps-that-no-one-sees";
     let (status, sink) = run_live(rt, name, Vec::new(rt.alloc()), &SlowGate)?;
@@ -149,7 +150,7 @@ fn show_unseen<R: Files + AllocGlobal + Print + Threads + Wait + Sync>(rt: &R) -
     say(rt, "a vsync was the first or the second", is_soon)
 }
 
-// The pixels of the frames of a run.
+/// The pixels of the frames of a run.
 fn frames_in(alloc: Global, records: &[u8]) -> io::Result<Vec<&[u8]>> {
     let mut frames = Vec::new(alloc);
     for (tag, body) in (Records { rest: records }) {
@@ -163,7 +164,7 @@ fn frames_in(alloc: Global, records: &[u8]) -> io::Result<Vec<&[u8]>> {
     Ok(frames)
 }
 
-// Whether frames are some of all those, in their order, up to the last one.
+/// Whether frames are some of all those, in their order, up to the last one.
 fn are_among(frames: &[&[u8]], all: &[&[u8]]) -> bool {
     let mut found = 0;
     for frame in all {
@@ -174,9 +175,9 @@ fn are_among(frames: &[&[u8]], all: &[&[u8]]) -> bool {
     found == frames.len() && frames.last() == all.last()
 }
 
-// Plays a script whose frames one actor sends off one after another, and runs it live: each frame of
-// the live run is one of the play, in their order, although the next vsync is decided while a frame is
-// composed, and a buffer is drawn in again that was given back before it was read for the last time.
+/// Plays a script whose frames one actor sends off one after another, and runs it live: each frame of
+/// the live run is one of the play, in their order, although the next vsync is decided while a frame is
+/// composed, and a buffer is drawn in again that was given back before it was read for the last time.
 fn show_frames<R: Files + AllocGlobal + Print + Threads + Wait + Sync>(rt: &R) -> io::Result<()> {
     let name = "two-large-buffers";
     let alloc = rt.alloc();
@@ -193,7 +194,7 @@ fn show_frames<R: Files + AllocGlobal + Print + Threads + Wait + Sync>(rt: &R) -
     )
 }
 
-// The steps whose transactions arrived.
+/// The steps whose transactions arrived.
 fn arrived_in(alloc: Global, records: &[u8]) -> io::Result<Vec<StepOf>> {
     let mut steps = Vec::new(alloc);
     for (tag, body) in (Records { rest: records }) {
@@ -210,7 +211,7 @@ fn arrived_in(alloc: Global, records: &[u8]) -> io::Result<Vec<StepOf>> {
     Ok(steps)
 }
 
-// The steps that were done and answered with one value, which is 0.
+/// The steps that were done and answered with one value, which is 0.
 fn answered_0(alloc: Global, records: &[u8]) -> io::Result<Vec<StepOf>> {
     let mut steps = Vec::new(alloc);
     for (tag, body) in (Records { rest: records }) {
@@ -228,8 +229,8 @@ fn answered_0(alloc: Global, records: &[u8]) -> io::Result<Vec<StepOf>> {
     Ok(steps)
 }
 
-// Runs a script live at whose gate actors meet, where transactions arrive through a queue, and prints
-// what came of it: each step that sent one has the one value 0.
+/// Runs a script live at whose gate actors meet, where transactions arrive through a queue, and prints
+/// what came of it: each step that sent one has the one value 0.
 fn show_queue<R: Files + AllocGlobal + Print + Threads + Wait + Sync>(
     rt: &R,
     name: &str,

@@ -55,7 +55,7 @@ use test_lines::{push_counts, push_records};
 /// More calls on a queue than a script can make.
 const LONG_HISTORY: u32 = 65_536;
 
-// What is printed of a run.
+/// What is printed of a run.
 fn shown(
     alloc: Global,
     title: &str,
@@ -72,6 +72,7 @@ fn shown(
     Ok(text)
 }
 
+/// Runs a case over a source and a sink in memory, some of whose calls fail.
 fn in_memory<R: AllocGlobal + Threads + Wait + Sync>(rt: &R, case: Case) -> io::Result<String> {
     let Case {
         title,
@@ -88,6 +89,8 @@ fn in_memory<R: AllocGlobal + Threads + Wait + Sync>(rt: &R, case: Case) -> io::
     shown(rt.alloc(), title.as_str(), status, sink.bytes(), is_counted)
 }
 
+/// Runs a case over a reader and a writer that move three bytes in a call and are interrupted now
+/// and then.
 fn in_pieces<R: AllocGlobal + Threads + Wait + Sync>(rt: &R, case: Case) -> io::Result<String> {
     let mut records = Vec::new(rt.alloc());
     let mut source = ReadSource::new(Halting::new(case.script.as_slice()));

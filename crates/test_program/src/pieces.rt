@@ -1,3 +1,4 @@
+//! Readers and writers that move few bytes at a time and are interrupted.
 use std::io::{self, ErrorKind, Read, Write};
 
 /// A reader or a writer of std that moves three bytes in a call, and of whose calls each third is
@@ -13,7 +14,7 @@ impl<T> Halting<T> {
         Halting { inner, calls: 0 }
     }
 
-    // How many of so many bytes the next call moves.
+    /// How many of so many bytes the next call moves.
     fn next_count(&mut self, length: usize) -> io::Result<usize> {
         self.calls = self.calls % 3 + 1;
         if self.calls == 3 {

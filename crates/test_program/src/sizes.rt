@@ -1,3 +1,4 @@
+//! How long a queue's history is in bytes.
 use sf_app::{HistoryEntry, QueueHistory, Record, write_record};
 use sf_base::Items;
 use sf_io::MemSink;

@@ -1,3 +1,4 @@
+//! The run of the whole program, by its statuses.
 ghost use Rattle.std.specs.Prelude.{◌≡◌, None, map};
 ghost use Rattle.std.specs.String.{string_bytes};
 ghost use Rattle.sf_io.specs.Causes.{Rose};

@@ -1,3 +1,4 @@
+//! Calls of objects under a lock.
 ghost use Rattle.std.specs.Prelude.{◌≡◌, IfOk};
 ghost use Rattle.sf_calls.specs.Calling.{IfFaultNotYet, Made, Waited};
 ghost use Rattle.sf_calls.specs.Passes.{Fits, HasMark};

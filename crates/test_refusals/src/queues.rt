@@ -1,3 +1,4 @@
+//! Calls on a queue.
 ghost use Rattle.std.specs.Prelude.{◌≡◌, ◌<◌, ◌-◌, ◌^◌, false, IfOk, is_some};
 ghost use Rattle.sf_slots.specs.declared.calls.PlainCall.TheVariants as call;
 ghost use Rattle.sf_slots.specs.Effects.{refusal_with};

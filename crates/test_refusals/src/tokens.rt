@@ -1,3 +1,4 @@
+//! Calls on the transactions that are pending.
 ghost use Rattle.std.specs.Prelude.{◌≡◌, option_copied};
 ghost use Rattle.sf_token.specs.Pending.{head_of};
 

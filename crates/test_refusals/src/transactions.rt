@@ -1,3 +1,4 @@
+//! Calls on transactions.
 ghost use Rattle.std.specs.Prelude.{◌≡◌, IfOk};
 ghost use Rattle.sf_txn.specs.Transactions.{all_replaced};
 

@@ -1,3 +1,4 @@
+//! Calls on a layer tree.
 ghost use Rattle.std.specs.List.{All};
 ghost use Rattle.std.specs.Prelude.{◌≡◌, ◌≤◌, length, OnOk};
 ghost use Rattle.sf_layer.specs.Ranges.{IsOperation};

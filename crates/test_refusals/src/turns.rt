@@ -1,3 +1,4 @@
+//! Calls on turns at pixels.
 ghost use Rattle.std.specs.Prelude.{◌≡◌, ℕ, ◌<◌, MatchResult};
 ghost use Rattle.sf_turns.specs.Views.{Observes};
 

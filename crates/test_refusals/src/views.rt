@@ -1,3 +1,4 @@
+//! Calls on views, displays, hit tests and damage.
 ghost use Rattle.std.specs.Prelude.{◌≡◌, IfOk};
 ghost use Rattle.sf_view.specs.Views.{IsDisplay, Views, ViewsInOrder};
 ghost use Rattle.sf_output_shown.specs.Displays.{order_on};

@@ -1,3 +1,4 @@
+//! What the words of a command ask for, as text.
 use crate::scripts::push_line;
 use sf_app_options::{About, Intake, Options, OptionsFault, Run};
 use sf_base::NoMemory;
@@ -5,7 +6,7 @@ use sf_script_words::next_line;
 use std::alloc::Global;
 use std::str;
 
-// The words of a line.
+/// The words of a line.
 fn words_of(alloc: Global, line: &str) -> Result<Vec<String>, NoMemory> {
     let mut words = Vec::new(alloc);
     if !line.is_empty() {
@@ -17,7 +18,7 @@ fn words_of(alloc: Global, line: &str) -> Result<Vec<String>, NoMemory> {
     Ok(words)
 }
 
-// The options that words ask for.
+/// The options that words ask for.
 fn push_options(told: &mut Vec<u8>, alloc: Global, options: Options) -> Result<(), NoMemory> {
     let run = match options.run {
         Run::Play => "play",
@@ -36,7 +37,7 @@ fn push_options(told: &mut Vec<u8>, alloc: Global, options: Options) -> Result<(
     push_line(told, line.as_bytes())
 }
 
-// What words ask for: something of the program itself, or a run, or nothing, since they are wrong.
+/// What words ask for: something of the program itself, or a run, or nothing, since they are wrong.
 fn push_asked(told: &mut Vec<u8>, alloc: Global, words: &[String]) -> Result<(), NoMemory> {
     match About::read(words) {
         Some(About::Help) => return push_line(told, b"help"),

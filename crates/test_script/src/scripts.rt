@@ -1,3 +1,5 @@
+//! What is told of each part of a table, as text: of a script its first fault or none, and that of
+//! its cuts; of words what they ask for.
 use crate::asked::push_all_asked;
 use sf_base::NoMemory;
 use sf_script::{ParseFault, ScriptFault, parse};
@@ -12,7 +14,7 @@ pub fn push_line(text: &mut Vec<u8>, line: &[u8]) -> Result<(), NoMemory> {
     Ok(())
 }
 
-// A line as often as the number before it says.
+/// A line as often as the number before it says.
 fn push_lines(part: &mut Vec<u8>, counted: &[u8]) -> Result<(), NoMemory> {
     let Some((count, rest)) = next_word(counted) else {
         return Ok(());
@@ -27,7 +29,7 @@ fn push_lines(part: &mut Vec<u8>, counted: &[u8]) -> Result<(), NoMemory> {
     Ok(())
 }
 
-// The lines up to the next title, behind what the part has, and the table from there on.
+/// The lines up to the next title, behind what the part has, and the table from there on.
 fn push_body<'a>(part: &mut Vec<u8>, table: &'a [u8]) -> Result<&'a [u8], NoMemory> {
     let mut rest = table;
     for _ in 0..table.len() {
@@ -44,7 +46,7 @@ fn push_body<'a>(part: &mut Vec<u8>, table: &'a [u8]) -> Result<&'a [u8], NoMemo
     Ok(rest)
 }
 
-// What a part begins with, by its title.
+/// What a part begins with, by its title.
 fn begun(alloc: Global, base: &[u8], title: &[u8]) -> Result<Vec<u8>, NoMemory> {
     let mut part = Vec::new(alloc);
     match title {
@@ -60,7 +62,7 @@ fn begun(alloc: Global, base: &[u8], title: &[u8]) -> Result<Vec<u8>, NoMemory> 
     Ok(part)
 }
 
-// The first fault of a script.
+/// The first fault of a script.
 fn fault_of(alloc: Global, script: &[u8]) -> Result<Option<ScriptFault>, NoMemory> {
     match parse(alloc, script) {
         Ok(scene) => {
@@ -72,7 +74,7 @@ fn fault_of(alloc: Global, script: &[u8]) -> Result<Option<ScriptFault>, NoMemor
     }
 }
 
-// What is said of a script, behind its title.
+/// What is said of a script, behind its title.
 fn push_fault(
     told: &mut Vec<u8>,
     alloc: Global,
@@ -89,7 +91,7 @@ fn push_fault(
     }
 }
 
-// What is said of the cuts of a script, with a line for each that differs from the one before.
+/// What is said of the cuts of a script, with a line for each that differs from the one before.
 fn push_cuts(told: &mut Vec<u8>, alloc: Global, script: &[u8]) -> Result<(), NoMemory> {
     let mut last = None;
     for length in 0..script.len() {
@@ -103,7 +105,7 @@ fn push_cuts(told: &mut Vec<u8>, alloc: Global, script: &[u8]) -> Result<(), NoM
     Ok(())
 }
 
-// What is told of a part, by its title.
+/// What is told of a part, by its title.
 fn push_part(told: &mut Vec<u8>, alloc: Global, title: &[u8], part: &[u8]) -> Result<(), NoMemory> {
     if let [b'=', b'?', ..] = title {
         return push_all_asked(told, alloc, part);

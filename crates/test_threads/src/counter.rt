@@ -1,6 +1,6 @@
 //! A counter that adds numbers up to a total of 100000, as an object under a lock.
 ghost use Rattle.std.specs.Prelude.{◌≡◌, [], reverse};
-ghost use Rattle.test_threads.specs.Counts.{Counts};
+ghost use Rattle.test_threads.specs.inner.Counts.{Counts};
 
 use sf_calls::{Entry, Object, Outcome};
 use std::alloc::Global;
@@ -19,7 +19,7 @@ pub struct Counter {
 impl Model for Counter {
     ghost use Rattle.std.specs.Prelude.{ℕ, List, reverse};
     ghost use Rattle.sf_calls.specs.declared.object.Entry.{Entry};
-    ghost use Rattle.test_threads.specs.Counts.{IsCounted};
+    ghost use Rattle.test_threads.specs.inner.Counts.{IsCounted};
 
     ghost Value = { List (Entry ℕ ℕ) };
 

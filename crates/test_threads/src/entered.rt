@@ -1,3 +1,4 @@
+//! A turn at pixels that has entered.
 ghost use Rattle.std.specs.Prelude.{◌≡◌};
 
 use crate::counted::Counted;

@@ -1,3 +1,5 @@
+//! Whose seat or pass a call is made through: one of two threads.
+
 /// Whose seat or pass a call is made through.
 #[derive(Clone, Copy)]
 pub enum Seat {

@@ -111,6 +111,7 @@ impl Run {
         }
     }
 
+    /// A call through the seat that it names. The second seat is there between a split and a join.
     fn call(&mut self, call: Call) -> Answer {
         match call {
             Call::Split => self.split(),

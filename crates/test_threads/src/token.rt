@@ -1,6 +1,6 @@
 //! The tokens of buffers' turns, and a call on one of them.
 ghost use Rattle.std.specs.Prelude.{◌≡◌};
-ghost use Rattle.test_threads.specs.Tokens.{table_of};
+ghost use Rattle.test_threads.specs.inner.Tokens.{table_of};
 
 use crate::answer::Answer;
 use crate::counted::Counted;
@@ -53,6 +53,7 @@ impl<B: TableName> Held<B> {
 }
 
 impl<B: TableName> After<B> {
+    /// What a call came to that leaves the token in hand.
     fn kept(token: Token, answer: Answer) -> After<B>
         requires { table_of token ≡ B.table }
     {
@@ -63,6 +64,7 @@ impl<B: TableName> After<B> {
         }
     }
 
+    /// What a call came to that used the token up.
     fn gone(answer: Answer) -> After<B> {
         After {
             kept: None,

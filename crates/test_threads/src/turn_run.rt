@@ -37,6 +37,7 @@ fn act_of(word: &str, stamp: &str) -> Option<Act> {
     }
 }
 
+/// A call by the words of its line.
 fn call_of(line: &str) -> Option<Call> {
     let [word, second, third, fourth] = words(line);
     match word {

@@ -1,3 +1,4 @@
+//! The readers of points and fences.
 ghost use Rattle.std.specs.Prelude.{◌≤◌, IfSome};
 
 use crate::ids::timeline_named;

@@ -1,3 +1,4 @@
+//! The readers of the numbers of actors, slots, tokens, layers and timelines.
 ghost use Rattle.std.specs.Prelude.{◌<◌, ◌≤◌, IfSome};
 
 use crate::number32;

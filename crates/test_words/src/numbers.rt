@@ -1,3 +1,4 @@
+//! The readers of plain numbers, flags and present times.
 use std::str::SplitWhitespace;
 
 /// The next word, as a number of 8 bits.

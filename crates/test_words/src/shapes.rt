@@ -1,3 +1,4 @@
+//! The readers of sizes, rectangles and colours.
 ghost use Rattle.std.specs.Prelude.{◌≤◌, ◌↔◌, IsTrue};
 
 use crate::{coordinate, number8, number32};

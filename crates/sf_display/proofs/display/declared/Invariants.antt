@@ -1,5 +1,5 @@
 use Rattle.std.proofs.Common.{◌≡◌, map, take}
-use Rattle.sf_display.specs.Index.{by_layer}
+use Rattle.sf_display.specs.inner.Index.{by_layer}
 use Rattle.sf_display.proofs.display.declared.Given as goal
 
 abbrev pub invariant-loop-number : goal.invariant-loop-number

@@ -3,12 +3,12 @@ use Rattle.sf_script_scene.specs.Scene.{SceneValue}
 use Rattle.sf_live_compositor.specs.sf_play.Going.{fuel_of}
 use Rattle.sf_live_compositor.specs.sf_play.Players.{home_in}
 use Rattle.sf_live_compositor.specs.sf_live_threads.Gates.{HavePassed}
-use Rattle.sf_live.specs.Rounds.{HasShown}
+use Rattle.sf_live.specs.inner.Rounds.{HasShown}
 use Rattle.sf_live.proofs.rounds.show_rounds.Given as goal
 
 -- what was shown is written behind what was there, each actor has passed its gates, and the desk tells places where it did
-abbrev pub invariant-turns : goal.invariant-turns
-invariant-turns g l =
+abbrev pub invariant-actions : goal.invariant-actions
+invariant-actions g l =
     ((scene : SceneValue) (start : Option (List ℕ))
     → HasShown g.B.TableName.table scene l.plan l.timelines start (g.K.Sink.taken l.initial.sink) l.initial.screens l.initial.player
     → HasShown g.B.TableName.table scene l.plan l.timelines start (g.K.Sink.taken l.sink) l.screens l.player)
@@ -16,5 +16,5 @@ invariant-turns g l =
     × (g.K.Sink.faults l.initial.sink ≤ g.K.Sink.faults l.sink)
     × ((home_in l.player.play).tells ≡ (home_in l.initial.player.play).tells)
 
-abbrev pub decreases-turns : goal.decreases-turns
-decreases-turns g l = fuel_of l.player
+abbrev pub decreases-actions : goal.decreases-actions
+decreases-actions g l = fuel_of l.player

@@ -4,7 +4,7 @@ use Rattle.sf_live_compositor.specs.sf_record.declared.record.Record.TheVariants
 use Rattle.sf_live_compositor.specs.law_played.Replies.{reply_shown}
 use Rattle.sf_live_compositor.specs.sf_play_write.Writing.{Writes, WritesPart}
 use Rattle.sf_live_compositor.proofs.sf_play_write_lemmas.WritingLemmas.{still_later, writes_none}
-use Rattle.sf_live.specs.Rounds.{reply_records}
+use Rattle.sf_live.specs.inner.Rounds.{reply_records}
 use Rattle.sf_live.proofs.EndLemmas.{pieces_more, pieces_part}
 use Rattle.sf_live.proofs.rounds.write_replies.Goals as goal
 

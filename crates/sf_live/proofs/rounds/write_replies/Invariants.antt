@@ -1,6 +1,6 @@
 use Rattle.std.proofs.Common.{◌≤◌, take}
 use Rattle.sf_live_compositor.specs.sf_play_write.Writing.{Writes}
-use Rattle.sf_live.specs.Rounds.{all_reply_records}
+use Rattle.sf_live.specs.inner.Rounds.{all_reply_records}
 use Rattle.sf_live.proofs.rounds.write_replies.Given as goal
 
 abbrev pub invariant-loop-actor : goal.invariant-loop-actor

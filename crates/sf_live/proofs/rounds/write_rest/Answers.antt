@@ -4,7 +4,7 @@ use Rattle.sf_live_compositor.specs.sf_actor_set.ActorSets.{ActorSetOf}
 use Rattle.sf_live_compositor.specs.sf_play_write.Closings.{closing_of}
 use Rattle.sf_live_compositor.specs.sf_play_write.Writing.{Writes, WritesPart}
 use Rattle.sf_live_compositor.proofs.sf_play_write_lemmas.WritingLemmas.{last_cut, last_written, part_front}
-use Rattle.sf_live.specs.Rounds.{all_reply_records}
+use Rattle.sf_live.specs.inner.Rounds.{all_reply_records}
 use Rattle.sf_live.proofs.rounds.write_rest.Goals as goal
 
 pub returns-in-Err-clause-err : goal.returns-in-Err-clause-err

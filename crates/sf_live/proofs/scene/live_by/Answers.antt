@@ -4,7 +4,7 @@ use Rattle.sf_live_compositor.specs.law_played.Played.{opening}
 use Rattle.sf_script_scene.specs.Limits.{IsWithinLimits}
 use Rattle.sf_script_scene.specs.Scene.{SceneValue}
 use Rattle.sf_live_compositor.specs.sf_actor_set.Opening.{IsSortedFrom}
-use Rattle.sf_live_compositor.proofs.sf_play_write_lemmas.TurnLemmas.{timelines_are}
+use Rattle.sf_live_compositor.proofs.sf_play_write_lemmas.ActionLemmas.{timelines_are}
 use Rattle.sf_live_compositor.proofs.sf_play_write_lemmas.WritingLemmas.{cut_part}
 use Rattle.sf_live.proofs.scene.live_by.Goals as goal
 

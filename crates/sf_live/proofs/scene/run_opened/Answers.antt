@@ -15,14 +15,14 @@ run_threads-compositor-requires-clause-starts g c κs within =
     let m = c.requires.starts.2 in (
       c.requires.starts.0,
       m.opens,
-      starts_here _ c.requires.starts.0 m refl refl refl refl c.new.ensures refl c.requires.some c.requires.few,
+      starts_here _ c.requires.starts.0 m refl refl refl refl c.new.ensures refl,
     )
 
 pub run_rounds-requires-clause-goes : goal.run_rounds-requires-clause-goes
 run_rounds-requires-clause-goes g c κs within =
     let m = c.requires.starts.2 in
     let came = of_ok _ c.run_threads-compositor.result.1 c.in-Ok.joined c.in-Ok.is
-    (c.run_threads-compositor.ensures.together c.requires.starts.0 m.opens (starts_here _ c.requires.starts.0 m refl refl refl refl c.new.ensures refl c.requires.some c.requires.few)) in (
+    (c.run_threads-compositor.ensures.together c.requires.starts.0 m.opens (starts_here _ c.requires.starts.0 m refl refl refl refl c.new.ensures refl)) in (
       run_came _ _ _ _ _ _ _ _ c.in-Ok.joined came,
       c.args.opened.locks,
       c.requires.starts.1,
@@ -45,7 +45,7 @@ returns-in-Err g c = λ scene start m.
 pub returns-in-Ok : goal.returns-in-Ok
 returns-in-Ok g c = λ scene start m.
     let came = of_ok _ c.run_threads-compositor.result.1 c.in-Ok.joined c.in-Ok.is
-    (c.run_threads-compositor.ensures.together scene m.opens (starts_here _ scene m refl refl refl refl c.new.ensures refl c.requires.some c.requires.few)) in
+    (c.run_threads-compositor.ensures.together scene m.opens (starts_here _ scene m refl refl refl refl c.new.ensures refl)) in
     let name = sym came.same.sink in
     let ended = c.run_rounds.ensures (run_came _ _ _ _ _ _ _ _ c.in-Ok.joined came) c.args.opened.locks start came.together
     (goes_from _ _ _ _ _ _ _ _ c.in-Ok.joined came start c.args.opened c.args.plan c.args.period c.args.order _ _ c.args.handler m refl refl) (has_come _ _ _ _ _ _ _ _ c.in-Ok.joined came m.planned) in

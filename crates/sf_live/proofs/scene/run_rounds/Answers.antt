@@ -1,7 +1,7 @@
 use Rattle.std.proofs.Common.{Bool, OnOk, subst, sym}
 use Rattle.sf_live_compositor.specs.sf_commit.Handlers.{HandlerOf}
 use Rattle.sf_live_compositor.specs.sf_surface.Tokens.{ReadLeaseOf}
-use Rattle.sf_live.specs.Resuming.{GoesFrom}
+use Rattle.sf_live.specs.inner.Resuming.{GoesFrom}
 use Rattle.sf_live.specs.Runs.{WroteLive}
 use Rattle.sf_live.proofs.GoingOn.{shown_so}
 use Rattle.sf_live.proofs.scene.run_rounds.Goals as goal

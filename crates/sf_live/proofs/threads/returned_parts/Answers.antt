@@ -2,7 +2,7 @@ use Rattle.std.proofs.Common.{◌≡◌, ◌++◌, ◌∷◌, [], map, ap, ◌�
 use Rattle.std.proofs.lemmas.Iterator.Adapters.{YieldsList-from_vec}
 use Rattle.std.proofs.lemmas.Iterator.Consumers.{YieldsList-end}
 use Rattle.sf_live_compositor.proofs.sf_live_threads_lemmas.Zips.{whole}
-use Rattle.sf_live.specs.Threads.{returned_actor, returned_gates}
+use Rattle.sf_live.specs.inner.Threads.{returned_actor, returned_gates}
 use Rattle.sf_live.proofs.ActorSetLemmas.{actors_more, gates_more}
 use Rattle.sf_live.proofs.threads.returned_parts.Goals as goal
 

@@ -1,5 +1,5 @@
 use Rattle.std.proofs.Common.{◌≡◌, map}
-use Rattle.sf_live.specs.Threads.{returned_actor, returned_gates}
+use Rattle.sf_live.specs.inner.Threads.{returned_actor, returned_gates}
 use Rattle.sf_live.proofs.threads.returned_parts.Given as goal
 
 abbrev pub invariant-loop-one : goal.invariant-loop-one

@@ -3,7 +3,7 @@ use Rattle.std.specs.List.{AllZip}
 use Rattle.std.proofs.lemmas.Iterator.Adapters.{YieldsList-from_vec}
 use Rattle.std.proofs.lemmas.Iterator.Consumers.{YieldsList-end, YieldsList-turn}
 use Rattle.sf_live_threads.specs.declared.task.Task.{Task}
-use Rattle.sf_live_threads.specs.Tasks.{IsFitTask, Stays}
+use Rattle.sf_live_threads.specs.inner.Tasks.{IsFitTask, Stays}
 use Rattle.sf_live_threads.proofs.AttendLemmas.{stays_same}
 use Rattle.sf_live_threads.proofs.Zips.{all_next, whole, zip_push}
 use Rattle.sf_live_threads.proofs.here.try_here.Goals as goal

@@ -1,5 +1,5 @@
 use Rattle.std.specs.List.{AllZip}
-use Rattle.sf_live_threads.specs.Tasks.{Stays}
+use Rattle.sf_live_threads.specs.inner.Tasks.{Stays}
 use Rattle.sf_live_threads.proofs.here.try_here.Given as goal
 
 abbrev pub invariant-loop-task : goal.invariant-loop-task

@@ -1,6 +1,6 @@
 use Rattle.std.specs.List.{AllZip}
 use Rattle.sf_live_seats.specs.First.{IsFirst}
-use Rattle.sf_live_threads.specs.Tasks.{Stays}
+use Rattle.sf_live_threads.specs.inner.Tasks.{Stays}
 use Rattle.sf_live_threads.specs.Visits.{Attends}
 use Rattle.sf_live_threads.proofs.run.attend.Given as goal
 

@@ -1,6 +1,6 @@
 use Rattle.std.proofs.Common.{rules}
 use Rattle.std.specs.List.{AllByRecursion}
-use Rattle.sf_live_threads.specs.Tasks.{IsFitTask}
+use Rattle.sf_live_threads.specs.inner.Tasks.{IsFitTask}
 use Rattle.sf_live_threads.proofs.AttendLemmas.{tasks_fit, out_stay}
 use Rattle.sf_live_threads.proofs.run.send_out.Goals as goal
 

@@ -5,7 +5,7 @@ use Rattle.std.proofs.lemmas.Iterator.Consumers.{YieldsList-end}
 use Rattle.sf_live_threads.specs.declared.seated_actor.Back.{Back}
 use Rattle.sf_live_threads.specs.declared.seated_actor.SeatedActor.{SeatedActor}
 use Rattle.sf_live_threads.specs.declared.task.Task.{Task}
-use Rattle.sf_live_threads.specs.Tasks.{Gives, GivesWhole}
+use Rattle.sf_live_threads.specs.inner.Tasks.{Gives, GivesWhole}
 use Rattle.sf_live_threads.proofs.Zips.{whole, zip_push}
 use Rattle.sf_live_threads.proofs.threads.bring_back.Goals as goal
 

@@ -1,5 +1,5 @@
 use Rattle.std.specs.List.{AllZip}
-use Rattle.sf_live_threads.specs.Tasks.{GivesWhole}
+use Rattle.sf_live_threads.specs.inner.Tasks.{GivesWhole}
 use Rattle.sf_live_threads.proofs.threads.bring_back.Given as goal
 
 abbrev pub invariant-loop-task : goal.invariant-loop-task

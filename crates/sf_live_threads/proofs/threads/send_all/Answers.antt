@@ -5,15 +5,15 @@ use Rattle.std.proofs.lemmas.Iterator.Consumers.{YieldsList-end, YieldsList-turn
 use Rattle.sf_live_threads.specs.declared.task.Task.{Task}
 use Rattle.sf_live_threads.specs.declared.seated_actor.SeatedActor.{SeatedActor}
 use Rattle.sf_live_threads.specs.SeatedActors.{MayTryNext}
-use Rattle.sf_live_threads.specs.Tasks.{IsTask}
+use Rattle.sf_live_threads.specs.inner.Tasks.{IsTask}
 use Rattle.sf_live_threads.proofs.Zips.{all_next, whole, zip_long, zip_push}
 use Rattle.sf_live_threads.proofs.threads.send_all.Goals as goal
 
-pub send-task-requires-clause-place : goal.send-task-requires-clause-place
-send-task-requires-clause-place g c =
+pub send-task-requires-clause-index : goal.send-task-requires-clause-index
+send-task-requires-clause-index g c =
     let t = YieldsList-turn (YieldsList-from_vec c.args.seated_actors.items (search rules) (search rules)) c.loop-seated_actor.yielded _ c.loop-seated_actor.yielded_by c.next.result c.next.new.self c.in-Some.seated_actor c.in-Some.is c.next.ensures.steps in
     let long = zip_long (IsTask {B = g.row.B.Denot} g.B.TableName.table c.args.locks.now c.args.pictures.now) c.loop-seated_actor.yielded c.loop-seated_actor.tasks.items c.loop-seated_actor.invariant.tasks in
-    let low : c.len-place.result < 64 = omega (arith, t.0, long, c.requires.few, c.len-place.ensures) in search rules
+    let low : c.len-index.result < 64 = omega (arith, t.0, long, c.requires.few, c.len-index.ensures) in search rules
 
 pub send-task-requires-clause-may_try_next : goal.send-task-requires-clause-may_try_next
 send-task-requires-clause-may_try_next g c =

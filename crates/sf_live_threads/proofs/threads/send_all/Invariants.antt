@@ -1,5 +1,5 @@
 use Rattle.std.specs.List.{AllZip}
-use Rattle.sf_live_threads.specs.Tasks.{IsTask}
+use Rattle.sf_live_threads.specs.inner.Tasks.{IsTask}
 use Rattle.sf_live_threads.proofs.threads.send_all.Given as goal
 
 abbrev pub invariant-loop-seated_actor : goal.invariant-loop-seated_actor

@@ -1,7 +1,7 @@
 use Rattle.std.proofs.Common.{List, [], subst, sym}
 use Rattle.std.proofs.lemmas.List.{take_more}
 use Rattle.sf_base.specs.declared.ids.LayerId.{LayerId}
-use Rattle.sf_mirror.specs.Marks.{AreMarks}
+use Rattle.sf_mirror.specs.inner.Marks.{AreMarks}
 use Rattle.sf_mirror.proofs.NamingLemmas.{no_marks}
 use Rattle.sf_mirror.proofs.naming.marks_of.Goals as goal
 

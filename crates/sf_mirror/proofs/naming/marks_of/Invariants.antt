@@ -1,5 +1,5 @@
 use Rattle.std.proofs.Common.{take}
-use Rattle.sf_mirror.specs.Marks.{AreMarks}
+use Rattle.sf_mirror.specs.inner.Marks.{AreMarks}
 use Rattle.sf_mirror.proofs.naming.marks_of.Given as goal
 
 abbrev pub invariant-loop-id : goal.invariant-loop-id

@@ -3,7 +3,7 @@ use Rattle.std.specs.List.{All}
 use Rattle.std.proofs.lemmas.List.Elements.{All-push}
 use Rattle.sf_base.specs.declared.ids.LayerId.{LayerId}
 use Rattle.sf_output_shown.specs.Copies.{IsLeastFree, is_free}
-use Rattle.sf_mirror.specs.Marks.{AreMarks}
+use Rattle.sf_mirror.specs.inner.Marks.{AreMarks}
 use Rattle.sf_mirror.proofs.NamingLemmas.{named_all, named_one, still_taken}
 use Rattle.sf_mirror.proofs.naming.name_all.Goals as goal
 

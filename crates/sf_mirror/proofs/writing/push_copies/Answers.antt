@@ -6,7 +6,7 @@ use Rattle.sf_base.specs.declared.ids.LayerId.{LayerId}
 use Rattle.sf_output_shown.specs.Copies.{copied, copy_of, named, number_of}
 use Rattle.sf_output_shown.specs.Cuts.{under}
 use Rattle.sf_output_shown.proofs.KeepingLemmas.{under-few}
-use Rattle.sf_mirror.specs.Extended.{Extends}
+use Rattle.sf_mirror.specs.inner.Extended.{Extends}
 use Rattle.sf_mirror.proofs.CopyLemmas.{long_copies}
 use Rattle.sf_mirror.proofs.CopyTreeLemmas.{Extends-copies, all_named, mirror_there}
 use Rattle.sf_mirror.proofs.writing.push_copies.Goals as goal

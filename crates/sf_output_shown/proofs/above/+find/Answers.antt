@@ -1,6 +1,6 @@
 use Rattle.std.proofs.Common.{◌≡◌, ◌+◌, ◌≤◌, ◌-◌, ◌∙◌, Option, Some, None, sym, arith, ap, subst}
 use Rattle.sf_view.specs.sf_layer.declared.layer.Layer.{Layer}
-use Rattle.sf_view.specs.sf_tree.Known.{Outranks}
+use Rattle.sf_view.specs.sf_tree.inner.Known.{Outranks}
 use Rattle.sf_view.specs.sf_tree.Layers.{parent_layer}
 use Rattle.sf_view.proofs.sf_tree_lemmas.Lookups.{layer_of-none, layer_of-place}
 use Rattle.sf_view.proofs.sf_tree_lemmas.Places.{index_of_inside}

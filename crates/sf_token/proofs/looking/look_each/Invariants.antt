@@ -2,7 +2,7 @@ use Rattle.std.proofs.Common.{◌≡◌, ◌+◌, ◌++◌, ◌≤◌, ℕ, List
 use Rattle.std.specs.List.{AllByRecursion}
 use Rattle.std.specs.Vec.Iter.{into_iter_items, into_iter_len}
 use Rattle.slab.specs.Slab.{get}
-use Rattle.sf_token.specs.Rooms.{AreLooked, Fits, HasRoom}
+use Rattle.sf_token.specs.inner.Rooms.{AreLooked, Fits, HasRoom}
 use Rattle.sf_token.specs.declared.looking.Room.{Room}
 use Rattle.sf_token.proofs.looking.look_each.Given as goal
 

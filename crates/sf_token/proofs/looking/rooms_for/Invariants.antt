@@ -2,7 +2,7 @@ use Rattle.std.proofs.Common.{◌≡◌, ◌++◌, IsSome, map, vec_capacity, ve
 use Rattle.std.specs.BTreeMap.{values}
 use Rattle.std.specs.List.{AllByRecursion}
 use Rattle.slab.specs.Slab.{get}
-use Rattle.sf_token.specs.Rooms.{HasRoom}
+use Rattle.sf_token.specs.inner.Rooms.{HasRoom}
 use Rattle.sf_token.specs.declared.looking.Room.{Room}
 use Rattle.sf_token.proofs.looking.rooms_for.Given as goal
 

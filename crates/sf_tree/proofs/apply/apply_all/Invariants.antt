@@ -1,6 +1,6 @@
 use Rattle.std.proofs.Common.{◌≡◌, ◌+◌, drop}
 use Rattle.sf_tree.specs.Changes.{after_from}
-use Rattle.sf_tree.specs.Journal.{GoesBack}
+use Rattle.sf_tree.specs.inner.Journal.{GoesBack}
 use Rattle.sf_tree.proofs.apply.apply_all.Given as goal
 
 abbrev pub invariant-loop-operation : goal.invariant-loop-operation

@@ -1,6 +1,6 @@
 use Rattle.std.proofs.Common.{◌≡◌, ◌∙◌, ap, sym, subst, List}
 use Rattle.sf_layer.specs.declared.layer.Layer.{Layer}
-use Rattle.sf_tree.specs.Journal.{GoesBack, undone}
+use Rattle.sf_tree.specs.inner.Journal.{GoesBack, undone}
 use Rattle.sf_tree.proofs.apply.step.Goals as goal
 
 pub returns-in-Ok : goal.returns-in-Ok

@@ -1,5 +1,5 @@
 use Rattle.std.proofs.Common.{◌≡◌, false, refl, arith}
-use Rattle.sf_tree.specs.Search.{leads_to}
+use Rattle.sf_tree.specs.inner.Search.{leads_to}
 use Rattle.sf_tree.proofs.UnreachedLayers.{all_more, all_passed}
 use Rattle.sf_tree.proofs.cycles.any_leads_to.Goals as goal
 

@@ -1,6 +1,6 @@
 use Rattle.std.proofs.Common.{◌≡◌, false, take}
 use Rattle.std.specs.List.{All}
-use Rattle.sf_tree.specs.Search.{leads_to}
+use Rattle.sf_tree.specs.inner.Search.{leads_to}
 use Rattle.sf_tree.proofs.cycles.any_leads_to.Given as goal
 
 abbrev pub invariant-loop-layer : goal.invariant-loop-layer

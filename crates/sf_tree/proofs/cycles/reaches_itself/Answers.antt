@@ -1,7 +1,7 @@
 use Rattle.std.proofs.Common.{◌≡◌, ◌<◌, ◌≤◌, sym, subst, ap, ◌∙◌, refl, arith, Ok, false, List, length, length-append}
 use Rattle.std.specs.List.{All}
 use Rattle.sf_layer.specs.declared.layer.Layer.{Layer}
-use Rattle.sf_tree.specs.Search.{leads_to, steps_along, Grows}
+use Rattle.sf_tree.specs.inner.Search.{leads_to, steps_along, Grows}
 use Rattle.sf_tree.specs.Steps.{reaches_itself}
 use Rattle.sf_tree.proofs.LayerPaths.{reaches-unknown, reaches-explored, reaches-le}
 use Rattle.sf_tree.proofs.UnreachedLayers.{reaches-stepless, reaches-unled}

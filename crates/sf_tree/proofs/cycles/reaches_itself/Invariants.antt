@@ -1,7 +1,7 @@
 use Rattle.std.proofs.Common.{ℕ, ◌<◌, ◌≤◌, ◌-◌, length, get_or}
 use Rattle.std.specs.List.{Contains}
 use Rattle.sf_base.specs.declared.ids.LayerId.{LayerId}
-use Rattle.sf_tree.specs.Search.{IsExplored, IsSearch, steps_along}
+use Rattle.sf_tree.specs.inner.Search.{IsExplored, IsSearch, steps_along}
 use Rattle.sf_tree.proofs.cycles.reaches_itself.Given as goal
 
 abbrev pub invariant-loop-index : goal.invariant-loop-index

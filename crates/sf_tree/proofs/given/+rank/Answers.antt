@@ -4,7 +4,7 @@ use Rattle.sf_layer.specs.declared.layer.Layer.{Layer}
 use Rattle.sf_layer.specs.declared.parent.Parent.{Parent}
 use Rattle.sf_layer.specs.declared.parent.Parent.TheVariants as parent
 use Rattle.sf_tree.specs.Kept.{IsRanked, IsTied}
-use Rattle.sf_tree.specs.Ranking.{IsFoundBelow, KeepsRanks}
+use Rattle.sf_tree.specs.inner.Ranking.{IsFoundBelow, KeepsRanks}
 use Rattle.sf_tree.proofs.Lookups.{has_layer-place}
 use Rattle.sf_tree.proofs.RankingLemmas.{All-at, IsStepFound, both_steps, found_at, no_step, one_step}
 use Rattle.sf_tree.proofs.Ranks.{layer_of-number}

@@ -6,7 +6,7 @@ use Rattle.std.proofs.lemmas.Option.{get_or_from_slice_get}
 use Rattle.sf_layer.specs.declared.layer.Layer.{Layer}
 use Rattle.sf_tree.specs.Kept.{IsDistinct, IsRanked, IsTied}
 use Rattle.sf_tree.specs.Layers.{index_of}
-use Rattle.sf_tree.specs.Ranking.{rank_at, rank_by}
+use Rattle.sf_tree.specs.inner.Ranking.{rank_at, rank_by}
 use Rattle.sf_tree.proofs.ShowLemmas.{inside_from_slice_get}
 use Rattle.sf_tree.proofs.given.all_lead_lower.Goals as goal
 

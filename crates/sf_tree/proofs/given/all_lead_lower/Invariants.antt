@@ -1,7 +1,7 @@
 use Rattle.std.proofs.Common.{ℕ, ◌<◌, get_or}
 use Rattle.sf_layer.specs.declared.layer.Layer.{Layer}
 use Rattle.sf_tree.specs.Kept.{IsRanked, IsTied}
-use Rattle.sf_tree.specs.Ranking.{rank_by}
+use Rattle.sf_tree.specs.inner.Ranking.{rank_by}
 use Rattle.sf_tree.proofs.given.all_lead_lower.Given as goal
 
 abbrev pub invariant-loop-place : goal.invariant-loop-place

@@ -1,6 +1,6 @@
 use Rattle.std.proofs.Common.{◌≡◌, ◌∙◌, sym, ◌<◌, length, true, arith}
 use Rattle.std.proofs.lemmas.List.{length-replicate}
-use Rattle.sf_tree.specs.Ranking.{rank_by, AllLeadLower}
+use Rattle.sf_tree.specs.inner.Ranking.{rank_by, AllLeadLower}
 use Rattle.sf_tree.proofs.RankingLemmas.{IsFoundUpTo, found_at_place, found_more, none_found}
 use Rattle.sf_tree.proofs.Ranks.{bounded_rank}
 use Rattle.sf_tree.proofs.ShowLemmas.{inside_from_slice_get, layer_at, written_back}

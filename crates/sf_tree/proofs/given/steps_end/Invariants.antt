@@ -1,7 +1,7 @@
 use Rattle.std.proofs.Common.{◌≡◌, ℕ, length}
 use Rattle.std.specs.List.{All}
 use Rattle.sf_tree.specs.Kept.{IsTied}
-use Rattle.sf_tree.specs.Known.{IsBounded}
+use Rattle.sf_tree.specs.inner.Known.{IsBounded}
 use Rattle.sf_tree.proofs.RankingLemmas.{IsFoundUpTo}
 use Rattle.sf_tree.proofs.given.steps_end.Given as goal
 

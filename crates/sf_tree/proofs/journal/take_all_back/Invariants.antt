@@ -1,6 +1,6 @@
 use Rattle.std.proofs.Common.{◌≡◌}
 use Rattle.std.specs.Vec.{vec_len}
-use Rattle.sf_tree.specs.Journal.{back, CanGoBack}
+use Rattle.sf_tree.specs.inner.Journal.{back, CanGoBack}
 use Rattle.sf_tree.proofs.journal.take_all_back.Given as goal
 
 abbrev pub invariant-loop-undo : goal.invariant-loop-undo

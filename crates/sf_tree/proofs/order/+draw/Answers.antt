@@ -2,7 +2,7 @@ use Rattle.std.proofs.Common.{◌≡◌, ◌<◌, ◌+◌, Some, sym, ◌∙◌,
 use Rattle.sf_layer.specs.declared.layer.Layer.{Layer}
 use Rattle.sf_layer.specs.declared.parent.Parent.TheVariants as parent
 use Rattle.sf_tree.specs.DrawOrder.{draw, drawn_with}
-use Rattle.sf_tree.specs.Known.{AtPlaces, is_on_side, showing}
+use Rattle.sf_tree.specs.inner.Known.{AtPlaces, is_on_side, showing}
 use Rattle.sf_tree.proofs.BelowLemmas.{all_taken, at_index, draw-suc, joined, list_at, next_at, on_side-more, on_side-same}
 use Rattle.sf_tree.proofs.ShowLemmas.{inside_from_slice_get, layer_at}
 use Rattle.sf_tree.proofs.ZOrder.{on_ok_weaker}

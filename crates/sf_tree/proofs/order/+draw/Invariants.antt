@@ -2,7 +2,7 @@ use Rattle.std.proofs.Common.{◌≡◌, ◌+◌, ◌*◌, ◌++◌, List, take}
 use Rattle.std.specs.List.{filter, flat_map}
 use Rattle.sf_layer.specs.declared.layer.Layer.{Layer}
 use Rattle.sf_tree.specs.DrawOrder.{draw}
-use Rattle.sf_tree.specs.Known.{AtPlaces, is_on_side, showing}
+use Rattle.sf_tree.specs.inner.Known.{AtPlaces, is_on_side, showing}
 use Rattle.sf_tree.proofs.order.+draw.Given as goal
 
 abbrev pub decreases-draw : goal.decreases-draw

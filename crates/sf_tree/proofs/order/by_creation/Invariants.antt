@@ -1,5 +1,5 @@
 use Rattle.std.proofs.Common.{◌≤◌, length}
-use Rattle.sf_tree.specs.Known.{IsRising}
+use Rattle.sf_tree.specs.inner.Known.{IsRising}
 use Rattle.sf_tree.proofs.order.by_creation.Given as goal
 
 abbrev pub invariant-loop-place : goal.invariant-loop-place

@@ -1,5 +1,5 @@
 use Rattle.std.proofs.Common.{◌≡◌, ◌-◌, ◌<◌, true, false, arith, rules, length, to_z, of_z, w32}
-use Rattle.sf_tree.specs.Known.{showing}
+use Rattle.sf_tree.specs.inner.Known.{showing}
 use Rattle.sf_tree.proofs.ShowLemmas.{layer_at}
 use Rattle.sf_tree.proofs.ZOrder.{flag_is, sorted_more, sorted_same, all_sorted, ok_weaker}
 use Rattle.sf_tree.proofs.order.by_z.Goals as goal

@@ -1,7 +1,7 @@
 use Rattle.std.proofs.Common.{◌≤◌, drop, length}
 use Rattle.std.specs.List.{AllZip, filter}
 use Rattle.sf_tree.specs.DrawOrder.{in_z_order}
-use Rattle.sf_tree.specs.Known.{IsEntry}
+use Rattle.sf_tree.specs.inner.Known.{IsEntry}
 use Rattle.sf_tree.specs.Showing.{shows}
 use Rattle.sf_tree.proofs.order.by_z.Given as goal
 

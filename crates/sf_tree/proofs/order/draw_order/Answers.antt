@@ -3,7 +3,7 @@ use Rattle.std.specs.List.{flat_map}
 use Rattle.std.proofs.lemmas.Grind.{flat_map-append}
 use Rattle.sf_layer.specs.declared.parent.Parent.TheVariants as parent
 use Rattle.sf_tree.specs.DrawOrder.{draw, draw_order, drawn_with}
-use Rattle.sf_tree.specs.Known.{showing}
+use Rattle.sf_tree.specs.inner.Known.{showing}
 use Rattle.sf_tree.proofs.BelowLemmas.{all_taken, at_index, next_at}
 use Rattle.sf_tree.proofs.ShowLemmas.{inside_from_slice_get}
 use Rattle.sf_tree.proofs.order.draw_order.Goals as goal

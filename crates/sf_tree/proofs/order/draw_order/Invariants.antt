@@ -2,7 +2,7 @@ use Rattle.std.proofs.Common.{◌≡◌, length, take}
 use Rattle.std.specs.List.{flat_map}
 use Rattle.sf_layer.specs.declared.parent.Parent.TheVariants as parent
 use Rattle.sf_tree.specs.DrawOrder.{draw, drawn_with}
-use Rattle.sf_tree.specs.Known.{showing}
+use Rattle.sf_tree.specs.inner.Known.{showing}
 use Rattle.sf_tree.proofs.order.draw_order.Given as goal
 
 abbrev pub invariant-loop-place : goal.invariant-loop-place

@@ -1,7 +1,7 @@
 use Rattle.std.proofs.Common.{◌≡◌, ◌+◌, ◌∙◌, subst, List, ◌++◌, ◌∷◌, [], map, take}
 use Rattle.std.proofs.lemmas.List.{length-map}
 use Rattle.sf_layer.specs.declared.layer.Layer.{Layer}
-use Rattle.sf_tree.specs.Known.{IsSortedBelow, showing}
+use Rattle.sf_tree.specs.inner.Known.{IsSortedBelow, showing}
 use Rattle.sf_tree.proofs.BelowLemmas.{all_empty, all_taken, at_index, next_at}
 use Rattle.sf_tree.proofs.ShowLemmas.{inside_from_slice_get}
 use Rattle.sf_tree.proofs.order.sorted_below.Goals as goal

@@ -1,5 +1,5 @@
 use Rattle.std.proofs.Common.{map, take}
-use Rattle.sf_tree.specs.Known.{IsSortedBelow, showing}
+use Rattle.sf_tree.specs.inner.Known.{IsSortedBelow, showing}
 use Rattle.sf_tree.proofs.order.sorted_below.Given as goal
 
 abbrev pub invariant-loop-place : goal.invariant-loop-place

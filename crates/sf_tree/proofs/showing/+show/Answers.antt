@@ -1,6 +1,6 @@
 use Rattle.std.proofs.Common.{◌≡◌, ◌≤◌, ◌+◌, ◌-◌, Some, sym, ◌∙◌, refl, arith, subst}
 use Rattle.sf_layer.specs.declared.layer.Layer.{Layer}
-use Rattle.sf_tree.specs.Known.{IsKnown, Outranks}
+use Rattle.sf_tree.specs.inner.Known.{IsKnown, Outranks}
 use Rattle.sf_tree.specs.Showing.{shows}
 use Rattle.sf_tree.proofs.Lookups.{layer_of-none, layer_of-place}
 use Rattle.sf_tree.proofs.Places.{index_of_inside}

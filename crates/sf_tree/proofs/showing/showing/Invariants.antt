@@ -1,5 +1,5 @@
 use Rattle.std.proofs.Common.{◌≡◌, take, map}
-use Rattle.sf_tree.specs.Known.{IsKnown}
+use Rattle.sf_tree.specs.inner.Known.{IsKnown}
 use Rattle.sf_tree.specs.Showing.{shows}
 use Rattle.sf_tree.proofs.showing.showing.Given as goal
 

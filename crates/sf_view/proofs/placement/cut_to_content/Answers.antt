@@ -3,7 +3,7 @@ use Rattle.std.specs.Prelude.{if◌then◌else◌}
 use Rattle.std.proofs.lemmas.Int.{ints}
 use Rattle.sf_base.specs.Geometry.{covers}
 use Rattle.sf_view.specs.Boxes.{is_sideways}
-use Rattle.sf_view.specs.Intervals.{is_in_interval}
+use Rattle.sf_view.specs.inner.Intervals.{is_in_interval}
 use Rattle.sf_view.specs.Placements.{HasSmallCrop}
 use Rattle.sf_view.specs.declared.content.Content.TheVariants as content
 use Rattle.sf_view.proofs.IntervalLemmas.{swapped}

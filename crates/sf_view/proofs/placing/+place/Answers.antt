@@ -1,6 +1,6 @@
 use Rattle.std.proofs.Common.{◌≡◌, ◌+◌, ◌≤◌, ◌-◌, ◌∙◌, Some, sym, arith, length, List, subst}
 use Rattle.sf_tree.specs.sf_layer.declared.layer.Layer.{Layer}
-use Rattle.sf_tree.specs.Known.{Outranks}
+use Rattle.sf_tree.specs.inner.Known.{Outranks}
 use Rattle.sf_tree.specs.Layers.{parent_layer}
 use Rattle.sf_tree.proofs.Lookups.{layer_of-none, layer_of-place}
 use Rattle.sf_tree.proofs.Places.{index_of_inside}

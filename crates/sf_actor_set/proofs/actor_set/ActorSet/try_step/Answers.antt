@@ -10,16 +10,16 @@ try_at-tried-requires-clause-may g c = may_step _ _ _ _ _ _ c.self.inside.is_spe
 pub invariant_of-self : goal.invariant_of-self
 invariant_of-self g c =
     let scripts = c.try_at-tried.ensures.scripts ∙ ap (scripts_of {B = g.row.B.Denot}) c.deref_mut.ensures.value in
-    let tries = as_lent _ _ _ c.args.place _ _ _ _ _ _ c.as_slice.ensures c.deref_mut.ensures.value c.try_at-tried.ensures.steps in
+    let tries = as_lent _ _ _ c.args.index _ _ _ _ _ _ c.as_slice.ensures c.deref_mut.ensures.value c.try_at-tried.ensures.steps in
     let back = written_back c.try_at-tried.new.actors c.self.inside.actors.items c.self.inside.actors.len c.self.inside.actors.ok.0 scripts in
-    rw back (is_actor_set_after _ _ c.args.place _ _ _ _ _ c.self.inside.is_spent _ c.if-self.false c.is_err-self-inside.ensures.value c.self.invariant scripts c.try_at-tried.ensures.home tries)
+    rw back (is_actor_set_after _ _ c.args.index _ _ _ _ _ c.self.inside.is_spent _ c.if-self.false c.is_err-self-inside.ensures.value c.self.invariant scripts c.try_at-tried.ensures.home tries)
 
 pub returns-clause-steps : goal.returns-clause-steps
 returns-clause-steps g c =
     let scripts = c.try_at-tried.ensures.scripts ∙ ap (scripts_of {B = g.row.B.Denot}) c.deref_mut.ensures.value in
-    let tries = as_lent _ _ _ c.args.place _ _ _ _ _ _ c.as_slice.ensures c.deref_mut.ensures.value c.try_at-tried.ensures.steps in
+    let tries = as_lent _ _ _ c.args.index _ _ _ _ _ _ c.as_slice.ensures c.deref_mut.ensures.value c.try_at-tried.ensures.steps in
     let back = written_back c.try_at-tried.new.actors c.self.inside.actors.items c.self.inside.actors.len c.self.inside.actors.ok.0 scripts in
-    λ ofs keep. whole_tries _ c.args.place _ _ _ _ _ _ _ _ _ c.self.view_is back tries ofs keep
+    λ ofs keep. whole_tries _ c.args.index _ _ _ _ _ _ _ _ _ c.self.view_is back tries ofs keep
 
 pub returns-clause-many : goal.returns-clause-many
 returns-clause-many g c =

@@ -13,7 +13,7 @@ returns-in-PDetach-clause-acts g c =
     let old = g.D.Desk.view c.args.desk.now in
     let new = g.D.Desk.view c.detach.new.desk in
     ok-map _ _ c.detach.result
-    (λ (came_to : Tried) tries. subst (λ (s : Step). Acts (picture_at c.args.pictures.now) home bindings.by.0 c.args.place s bindings c.detach.new.self old new came_to) (sym c.in-PDetach.is) (tries (picture_at c.args.pictures.now)))
+    (λ (came_to : Tried) tries. subst (λ (s : Step). Acts (picture_at c.args.pictures.now) home bindings.by.0 c.args.step_number s bindings c.detach.new.self old new came_to) (sym c.in-PDetach.is) (tries (picture_at c.args.pictures.now)))
     c.detach.ensures.tries
 
 pub returns-in-CDetach-clause-acts : goal.returns-in-CDetach-clause-acts
@@ -23,5 +23,5 @@ returns-in-CDetach-clause-acts g c =
     let old = g.D.Desk.view c.args.desk.now in
     let new = g.D.Desk.view c.detach_read.new.desk in
     ok-map _ _ c.detach_read.result
-    (λ (came_to : Tried) tries. subst (λ (s : Step). Acts (picture_at c.args.pictures.now) home bindings.by.0 c.args.place s bindings c.detach_read.new.self old new came_to) (sym c.in-CDetach.is) (tries (picture_at c.args.pictures.now)))
+    (λ (came_to : Tried) tries. subst (λ (s : Step). Acts (picture_at c.args.pictures.now) home bindings.by.0 c.args.step_number s bindings c.detach_read.new.self old new came_to) (sym c.in-CDetach.is) (tries (picture_at c.args.pictures.now)))
     c.detach_read.ensures.tries

@@ -26,6 +26,6 @@ returns-clause-tries g c =
     let passed : LooksFor home fence old looked =
     subst (λ (f : Option Fence). LooksFor home f old looked) c.requested_fence.ensures (subst (Looks home (option_copied c.requested_fence.result) old looked) c.if-is_open.false c.is_open.ensures.looks) in
     ok-map _ _ c.detach_now.result
-    (λ (came_to : Tried) makes (pictures : ℕ → Picture). leaves pictures home by c.args.place s fence c.args.self.now c.detach_now.new.self old looked new came_to passed
-    (subst (λ (h : DeskHome). MakesCall pictures h by c.args.place s c.args.self.now c.detach_now.new.self looked new came_to) home_same (makes pictures)))
+    (λ (came_to : Tried) makes (pictures : ℕ → Picture). leaves pictures home by c.args.step_number s fence c.args.self.now c.detach_now.new.self old looked new came_to passed
+    (subst (λ (h : DeskHome). MakesCall pictures h by c.args.step_number s c.args.self.now c.detach_now.new.self looked new came_to) home_same (makes pictures)))
     c.detach_now.ensures.makes

@@ -33,19 +33,19 @@ returns-clause-shows g c =
     let replaced = c.in-Ok.ensures.replaced ∙ ap (replaced_by txn.buffers) c.in_ok-buffer.ensures in
     let put = c.put.ensures ∙ ap (λ (t : Contents ReadLeaseOf). slice_set without.transactions c.args.number (Some t)) (c.in-Ok.ensures.ok ∙ ap (set_buffer txn) c.in_ok-buffer.ensures) in
     let by_same = ap (λ (h : Bindings _). h.by) c.take_transaction-transaction.ensures.txn_rest ∙ ap (λ (h : Bindings _). h.by) c.take_frame-lease.ensures.rest in
-    let released : ReleasesAll home by c.args.place (option_to_list c.in-Ok.replaced) old new = elim c.match-replaced.branch [
+    let released : ReleasesAll home by c.args.step_number (option_to_list c.in-Ok.replaced) old new = elim c.match-replaced.branch [
       | in-Some+in_ok-release_overtaken+in-None-1 w ↦
           let next = g.D.Desk.view w.release_overtaken.new.desk in
-          let given_back = subst (λ (b : Buffer ReadLeaseOf). Releases home by c.args.place b.lease old next) w.buffer.view_is
-          (subst (λ (a : ActorId). Releases home a.0 c.args.place w.buffer.inside.lease old next) by_same w.in_ok-release_overtaken.ensures.releases) in
-          subst (λ (o : Option (Buffer ReadLeaseOf)). ReleasesAll home by c.args.place (option_to_list o) old new) (sym w.in-Some.is) (next, given_back, ap g.D.Desk.view w.desk-is)
+          let given_back = subst (λ (b : Buffer ReadLeaseOf). Releases home by c.args.step_number b.lease old next) w.buffer.view_is
+          (subst (λ (a : ActorId). Releases home a.0 c.args.step_number w.buffer.inside.lease old next) by_same w.in_ok-release_overtaken.ensures.releases) in
+          subst (λ (o : Option (Buffer ReadLeaseOf)). ReleasesAll home by c.args.step_number (option_to_list o) old new) (sym w.in-Some.is) (next, given_back, ap g.D.Desk.view w.desk-is)
       | in-Some+in_ok-release_overtaken+in-Some-1 w ↦
           let next = g.D.Desk.view w.release_overtaken.new.desk in
-          let given_back = subst (λ (b : Buffer ReadLeaseOf). Releases home by c.args.place b.lease old next) w.buffer.view_is
-          (subst (λ (a : ActorId). Releases home a.0 c.args.place w.buffer.inside.lease old next) by_same w.in_ok-release_overtaken.ensures.releases) in
-          subst (λ (o : Option (Buffer ReadLeaseOf)). ReleasesAll home by c.args.place (option_to_list o) old new) (sym w.in-Some.is) (next, given_back, ap g.D.Desk.view w.desk-is)
+          let given_back = subst (λ (b : Buffer ReadLeaseOf). Releases home by c.args.step_number b.lease old next) w.buffer.view_is
+          (subst (λ (a : ActorId). Releases home a.0 c.args.step_number w.buffer.inside.lease old next) by_same w.in_ok-release_overtaken.ensures.releases) in
+          subst (λ (o : Option (Buffer ReadLeaseOf)). ReleasesAll home by c.args.step_number (option_to_list o) old new) (sym w.in-Some.is) (next, given_back, ap g.D.Desk.view w.desk-is)
       | in_default-replaced w ↦
-          subst (λ (o : Option (Buffer ReadLeaseOf)). ReleasesAll home by c.args.place (option_to_list o) old new) (sym w.in_default-replaced.is) (ap g.D.Desk.view w.desk-is)
+          subst (λ (o : Option (Buffer ReadLeaseOf)). ReleasesAll home by c.args.step_number (option_to_list o) old new) (sym w.in_default-replaced.is) (ap g.D.Desk.view w.desk-is)
     ] in (
       refl,
       record {
@@ -53,6 +53,6 @@ returns-clause-shows g c =
         without_frame = c.take_frame-lease.new.self;
         takes = c.take_frame-lease.ensures;
         edits = record { edited = txn; without = without; takes = c.take_transaction-transaction.ensures; put_back = ap (λ txns. record without { transactions = txns }) put };
-        releases = subst (λ (o : Option (Buffer ReadLeaseOf)). ReleasesAll home by c.args.place (option_to_list o) old new) replaced released;
+        releases = subst (λ (o : Option (Buffer ReadLeaseOf)). ReleasesAll home by c.args.step_number (option_to_list o) old new) replaced released;
       },
     )

@@ -1,5 +1,5 @@
 use Rattle.std.proofs.Common.{◌∙◌}
-use Rattle.sf_slots.proofs.Configured.{allows, IsSound-configured}
+use Rattle.sf_slots.proofs.SettingsKept.{allows, IsSound-configured}
 use Rattle.sf_slots.proofs.slots.Slots.configure.Goals as goal
 
 pub invariant_of-self : goal.invariant_of-self

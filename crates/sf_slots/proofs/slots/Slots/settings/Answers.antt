@@ -1,4 +1,4 @@
-use Rattle.sf_slots.proofs.Configured.{allowed-own}
+use Rattle.sf_slots.proofs.SettingsKept.{allowed-own}
 use Rattle.sf_slots.proofs.slots.Slots.settings.Goals as goal
 
 pub returns-clause-allowed : goal.returns-clause-allowed

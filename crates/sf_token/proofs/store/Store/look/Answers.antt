@@ -1,9 +1,9 @@
 use Rattle.std.proofs.Common.{◌∙◌, ap, subst, sym, nat_eq, ℕ, List}
 use Rattle.std.specs.List.{IsDistinct}
 use Rattle.slab.specs.Slab.{get}
-use Rattle.sf_token.specs.Looking.{AllLeases}
+use Rattle.sf_token.specs.Loads.{AllLeases}
 use Rattle.sf_token.specs.Pending.{Arrival}
-use Rattle.sf_token.specs.Rooms.{AreLooked}
+use Rattle.sf_token.specs.inner.Rooms.{AreLooked}
 use Rattle.sf_token.specs.Slots.{picked}
 use Rattle.sf_token.proofs.LookLemmas.{fits_rooms}
 use Rattle.sf_token.proofs.StoreLemmas.{AreFiled-looked, all_taken, distinct_keys}

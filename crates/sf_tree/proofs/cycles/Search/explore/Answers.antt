@@ -1,5 +1,5 @@
 use Rattle.std.proofs.Common.{◌≡◌, ◌<◌, sym, ap, ◌∙◌, refl, arith, Ok, get_or, length, length-append}
-use Rattle.sf_tree.specs.Search.{steps_along, relative_along, GoesOn, Grows}
+use Rattle.sf_tree.specs.inner.Search.{steps_along, relative_along, GoesOn, Grows}
 use Rattle.sf_tree.proofs.Lookups.{layer_of-none}
 use Rattle.sf_tree.proofs.SearchSteps.{HasSteps, HasSteps-place, first_way, second_way, way_back, IsFollowed-grows, IsExplored-both, any_default}
 use Rattle.sf_tree.proofs.cycles.Search.explore.Goals as goal

@@ -4,7 +4,7 @@ use Rattle.sf_base.specs.Blend.{product}
 use Rattle.sf_tree.specs.sf_layer.Ranges.{IsCrop}
 use Rattle.sf_view.specs.Ancestry.{is_in_crops, place_of}
 use Rattle.sf_view.specs.Placements.{is_in_display}
-use Rattle.sf_view.specs.Intervals.{is_in_interval}
+use Rattle.sf_view.specs.inner.Intervals.{is_in_interval}
 use Rattle.sf_view.proofs.PlacementLemmas.{and_true, IsInReach-step, regroup}
 use Rattle.sf_view.proofs.placement.Placement.below.Goals as goal
 

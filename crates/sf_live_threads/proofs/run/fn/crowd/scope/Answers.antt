@@ -2,7 +2,7 @@ use Rattle.std.proofs.Common.{◌≡◌, sym, subst}
 use Rattle.std.specs.List.{AllZip}
 use Rattle.sf_live_seats.specs.declared.first.FirstSeats.{FirstSeats}
 use Rattle.sf_live_threads.specs.Backs.{AllCame}
-use Rattle.sf_live_threads.specs.Tasks.{AreTasks, GivesWhole}
+use Rattle.sf_live_threads.specs.inner.Tasks.{AreTasks, GivesWhole}
 use Rattle.sf_live_threads.specs.Visits.{Attends}
 use Rattle.sf_live_threads.proofs.AttendLemmas.{all_came, carried, left_so, ok_more}
 use Rattle.sf_live_threads.proofs.run.fn.crowd.scope.Goals as goal

@@ -1,0 +1,4 @@
+pub mod Resuming
+pub mod Rounds
+pub mod Running
+pub mod Threads

@@ -1,0 +1,29 @@
+-- What a run that goes on by rounds begins with.
+use Rattle.std.specs.Prelude.{◌≡◌, ℕ, List, [], ◌∷◌, Option}
+use Rattle.sf_live_compositor.specs.sf_surface.Tokens.{ReadLeaseOf}
+use Rattle.sf_live_compositor.specs.sf_commit.Handlers.{HandlerOf}
+use Rattle.sf_script_scene.specs.declared.declarations.Pick.{Pick}
+use Rattle.sf_live_compositor.specs.sf_output_plan.declared.plan.Plan.{Plan}
+use Rattle.sf_live_compositor.specs.law_played.Frames.{plan_of}
+use Rattle.sf_live_compositor.specs.law_played.Played.{opening}
+use Rattle.sf_live_compositor.specs.law_played.Vsyncs.{rising_timelines}
+use Rattle.sf_live_compositor.specs.sf_output_screen.declared.screens.OutputScreen.{OutputScreen}
+use Rattle.sf_live_compositor.specs.sf_play_write.Writing.{Writes}
+use Rattle.sf_live.specs.inner.Threads.{RunOf}
+
+-- the period and the order are the scene's, the compositor is as it came to the joins, and the record that begins a run was written before the
+-- first vsync
+pub record GoesFrom {B : Type 0} (run : RunOf B) (start : Option (List ℕ)) (period : ℕ) (order : List Pick) (handler : HandlerOf ReadLeaseOf) (vsyncs : ℕ) : Type 0 where
+  pub same_period : period ≡ run.scene.period
+  pub same_order : order ≡ run.scene.order
+  pub same_handler : handler ≡ run.last.handler
+  pub same_vsyncs : vsyncs ≡ run.last.number
+  pub rising : run.timelines ≡ rising_timelines run.scene
+  pub begun : Writes start run.before (opening run.scene ∷ [])
+
+-- the plan is the scene's, and the timelines, the sink and the screens are as they came to the joins
+pub record HasCome {B : Type 0} (run : RunOf B) (timelines : List ℕ) (plan : Plan) (now : Option (List ℕ)) (screens : List OutputScreen) : Type 0 where
+  pub planned : plan ≡ plan_of run.scene
+  pub same_timelines : timelines ≡ run.timelines
+  pub same_sink : now ≡ run.now
+  pub same_screens : screens ≡ run.screens

@@ -1,0 +1,80 @@
+-- A run in threads with its compositor: how it starts, and what comes of it.
+use Rattle.std.specs.Prelude.{◌≡◌, ℕ, ◌≤◌, List, [], ◌∷◌, Option, None}
+use Rattle.atomic_table.specs.Seated.{TableId}
+use Rattle.sf_io.specs.Causes.{Rose}
+use Rattle.sf_live_compositor.specs.sf_record.declared.encode.RunFault.{RunFault}
+use Rattle.sf_live_compositor.specs.sf_record.declared.encode.RunFault.TheVariants.{WriteFault}
+use Rattle.sf_live_compositor.specs.sf_surface.Tokens.{Issued, ReadLeaseOf}
+use Rattle.sf_turns.specs.Views.{SeatView}
+use Rattle.sf_turns.specs.declared.naming.TableName.{Ghosts as Naming}
+use Rattle.sf_live_compositor.specs.sf_txn.declared.lease.Lease.{Ghosts}
+use Rattle.sf_live_compositor.specs.sf_commit.Handlers.{HandlerOf, new_handler}
+use Rattle.sf_live_compositor.specs.sf_output_plan.declared.plan.Plan.{Plan}
+use Rattle.sf_script_scene.specs.Limits.{most_layers}
+use Rattle.sf_script_scene.specs.Scene.{SceneValue}
+use Rattle.sf_script_scene.specs.declared.declarations.Pick.{Pick}
+use Rattle.sf_live_compositor.specs.law_played.Frames.{plan_of}
+use Rattle.sf_live_compositor.specs.law_played.Played.{opening}
+use Rattle.sf_live_compositor.specs.law_played.Vsyncs.{rising_timelines}
+use Rattle.sf_live_compositor.specs.sf_play_write.Writing.{CutSome, Writes, WritesSome}
+use Rattle.sf_live_compositor.specs.sf_live_seats.declared.locks.Locks.{Locks}
+use Rattle.sf_live_compositor.specs.sf_live_seats.declared.seats.Seats.{Seats}
+use Rattle.sf_live_compositor.specs.declared.compositor.Compositor.{Compositor}
+use Rattle.sf_live_compositor.specs.Keeping.{IsSame}
+use Rattle.sf_live_compositor.specs.Sitting.{IsSet}
+use Rattle.sf_live.specs.declared.opening.Opened.{Opened}
+use Rattle.sf_live.specs.Openings.{IsOpen}
+use Rattle.sf_live.specs.declared.threads.Joined.{Joined}
+use Rattle.sf_live.specs.inner.Threads.{IsTogether, RunOf}
+
+-- A scene is opened, with its plan, its period, its order, its timelines by rising number and a handler for its display; and the record that begins its
+-- run is written.
+pub record MayRun {B : Type 0} (table : TableId) (scene : SceneValue) (start now : Option (List ℕ)) (timelines : List ℕ) (plan : Plan)
+    (period : ℕ) (order : List Pick) (handler : HandlerOf ReadLeaseOf) (opened : Opened B) : Type 0 where
+  pub opens : IsOpen scene table opened
+  pub handler_is : handler ≡ new_handler scene.width scene.height (most_layers scene.version)
+  pub planned : plan ≡ plan_of scene
+  pub same_period : period ≡ scene.period
+  pub same_order : order ≡ scene.order
+  pub rising : timelines ≡ rising_timelines scene
+  pub begun : Writes start now (opening scene ∷ [])
+
+module _ {K B : Type 0} {naming : Naming B} where
+  -- a compositor of a scene before its first vsync: nothing was sent to it, and it has shown nothing
+  pub record Starts (scene : SceneValue) (c : Compositor K B naming) : Type 0 where
+    pub handler : c.decider.handler ≡ new_handler scene.width scene.height (most_layers scene.version)
+    pub none_made : c.vsyncs ≡ 0
+    pub none_due : c.due ≡ None
+    pub fine : c.fault ≡ None
+    pub planned : c.plan ≡ plan_of scene
+    pub screens : c.screens ≡ []
+    pub period : c.period ≡ scene.period
+    pub set : IsSet c.period c.plan c.timelines.items
+
+  module _ (taken : K → Option (List ℕ)) (faults : K → ℕ) where
+    -- what is told of a run from this compositor to that one, which came to these seats
+    abbrev pub run_by : SceneValue → Seats B → Compositor K B naming → Compositor K B naming → RunOf B
+    run_by scene seats start c = record {
+      scene = scene;
+      last = record { handler = c.decider.handler; seats = seats; number = c.vsyncs };
+      timelines = c.timelines.items;
+      before = taken start.sink.now;
+      now = taken c.sink.now;
+      screens = c.screens;
+    }
+
+    -- The run came to its joins. Whatever was shown, whole records were written.
+    pub record CameTogether (lease : Ghosts ReadLeaseOf SeatView ReadLeaseOf Issued) (table : TableId) (scene : SceneValue) (locks : Locks B) (start c : Compositor K B naming)
+        (joined : Joined B) : Type 0 where
+      pub same : IsSame start c
+      pub seats : Seats B
+      pub together : IsTogether lease table (run_by scene seats start c) locks joined
+      pub some : WritesSome (taken start.sink.now) (taken c.sink.now)
+      pub faults_rise : faults start.sink.now ≤ faults c.sink.now
+
+    -- It came to no end: whole records were written, and at most one that is cut; and where the sink is why, its count of faults rose.
+    pub record WasCut (start c : Compositor K B naming) (why : RunFault) : Type 0 where
+      pub same : IsSame start c
+      pub cut : CutSome (taken start.sink.now) (taken c.sink.now)
+      pub faults_rise : faults start.sink.now ≤ faults c.sink.now
+      pub failed : why ≡ WriteFault → Rose (faults start.sink.now) (faults c.sink.now)

@@ -1,0 +1,45 @@
+//! One try of an actor's next step in its thread: behind its gate, over its own seats, with a note
+//! of what it did.
+ghost use Rattle.std.specs.Prelude.{IfOk};
+ghost use Rattle.sf_live_threads.specs.SeatedActors.{MayTryNext, TriesNext};
+
+use crate::noting::{Noted, NotingDesk};
+use crate::seated_actor::SeatedActor;
+use sf_actor_steps::Stepped;
+use sf_base::NoMemory;
+use sf_io::Gate;
+use sf_live_seats::{Locks, SharedDesk};
+use sf_picture::Picture;
+use sf_turns::TableName;
+use std::sync::Wait;
+
+/// One try of a seated actor's next step, over its own seats, and what it did at what all share. Before
+/// a step's first try the gate is passed. One that found no memory does no more steps.
+pub(crate) fn try_next<R: Wait, G: Gate, B: TableName>(
+    rt: &R,
+    locks: &Locks<B>,
+    pictures: &[Picture],
+    gate: &G,
+    seated_actor: SeatedActor<B>,
+) -> (SeatedActor<B>, Result<Stepped, NoMemory>, Noted)
+    requires { MayTryNext B.table locks.now pictures.now seated_actor }
+    ensures { IfOk result.1 (TriesNext B.table locks.now pictures.now seated_actor result.0) }
+{
+    let SeatedActor {
+        mut actor,
+        seats,
+        gates,
+    } = seated_actor;
+    let gates = gates.ready(rt, gate, &actor);
+    let desk = SharedDesk::new(rt, locks, seats);
+    let mut noting = NotingDesk::new(desk);
+    let stepped = actor.try_step(&mut noting, pictures);
+    let (desk, noted) = noting.into_parts();
+    let seats = desk.into_seats();
+    let seated_actor = SeatedActor {
+        actor,
+        seats,
+        gates,
+    };
+    (seated_actor, stepped, noted)
+}
