@@ -349,9 +349,10 @@ class Parts(unittest.TestCase):
             self.assertEqual(verdict(BUSY, change(told), is_play=True), "play")
 
     def test_neighbours_in_a_history_are_free_where_no_reply_changes(self):
-        told = with_rows("HIST", 0, "calls", lambda rows: rows[::-1])(played(CROSSED))
+        told = with_rows("HIST", 1, "calls", lambda rows: rows[::-1])(played(CROSSED))
         self.assertIsNone(verdict(CROSSED, told))
         self.assertEqual(verdict(CROSSED, told, is_play=True), "play")
+        self.assertEqual(verdict(CROSSED, with_rows("HIST", 0, "calls", lambda rows: rows[::-1])(played(CROSSED))), "one order")
 
     def test_replies_of_a_live_run_stand_behind_its_vsyncs(self):
         told = played(BUSY)

@@ -7,6 +7,7 @@ import textwrap
 import unittest
 
 from surbeldoi import TOP
+from surbeldoi.build.rooms import lists_of, read_rooms
 from surbeldoi.commands.run import LEFT
 from surbeldoi.model.playing import Play
 from surbeldoi.records.stream import FORMS, OUTPUTS, faults, read
@@ -15,12 +16,31 @@ from surbeldoi.script.grammar import CHANGES, LINES, SECOND, STEPS, form_text
 from surbeldoi.script.scenes import read_scene
 from tests.test_scenes import of_some_form
 
-DOCUMENTS = ["README.md"] + sorted(os.path.join("docs", name) for name in os.listdir(os.path.join(TOP, "docs")) if name.endswith(".md"))
+# How many words a sentence has at most; a piece of code counts as one.
+MOST_WORDS = 35
+DOCUMENTS = ["README.md", "CONTRIBUTING.md", "CHANGELOG.md"] + sorted(os.path.relpath(path, TOP) for path in glob.glob(os.path.join(TOP, "docs", "**", "*.md"), recursive=True))
 
 
 def text(path):
     with open(os.path.join(TOP, path), encoding="utf-8") as file:
         return file.read()
+
+
+def prose(page):
+    """The text of a page that is read as sentences, paragraph by paragraph: no pictures, code, tables and headings, and no targets of links."""
+    page = re.sub(r"```.*?```", "", page, flags=re.S)
+    kept = "\n".join("" if line.startswith(("|", "    ", "#")) else re.sub(r"^\s*([-*]|\d+\.) ", "\n", line) for line in page.splitlines())
+    return [re.sub(r"`[^`]*`", "`", re.sub(r"\[([^\]]*)\]\([^)]*\)", r"\1", block)) for block in re.split(r"\n\s*\n", kept)]
+
+
+def sentences(page):
+    """The sentences of a page: each ends with a full stop, a colon, a mark or its paragraph."""
+    return [sentence for block in prose(page) for sentence in re.split(r"(?<=[.!?:])(?:\*\*|\))*\s+", block.strip()) if sentence]
+
+
+def words(page):
+    """The words of a page, those of its tables too; no pictures, and no rules and bars of tables."""
+    return re.sub(r"```.*?```|^\|[-|]+$", "", page, flags=re.S | re.M).replace("|", " ").split()
 
 
 def anchors(path):
@@ -40,6 +60,18 @@ def without_comments(path):
         return [line for line in file.read().splitlines() if not line.startswith("#")]
 
 
+def names_in(crate):
+    """The names in the code and the definitions of a crate, comments left out."""
+    files = glob.glob(os.path.join(TOP, "crates", crate, "src", "**", "*.rt"), recursive=True)
+    files += glob.glob(os.path.join(TOP, "crates", crate, "specs", "**", "*.antt"), recursive=True)
+    return {name for file in files for name in re.findall(r"[A-Za-z]\w*", re.sub(r"^\s*(//|--).*$", "", text(file), flags=re.M))}
+
+
+def named(cells):
+    """The names in these cells of a table, part by part: of `Fence::add` two."""
+    return [part for cell in cells for code in re.findall(r"`([^`]*)`", cell) for part in re.split(r"::|\.", code) if re.fullmatch(r"[A-Za-z]\w*", part)]
+
+
 class Documents(unittest.TestCase):
     def test_links_lead_to_files_and_headings(self):
         for path in DOCUMENTS:
@@ -52,8 +84,40 @@ class Documents(unittest.TestCase):
                 if anchor:
                     self.assertIn(anchor, anchors(page), f"{path}: {target}")
 
-    def test_the_first_page_is_short(self):
-        self.assertLessEqual(len(text("README.md").split()), 900)
+    def test_pages_are_short(self):
+        for path, most in (("README.md", 900), ("docs/ARCHITECTURE.md", 1500), ("docs/PROVED.md", 8000)):
+            self.assertLessEqual(len(words(text(path))), most, path)
+
+    def test_sentences_are_short(self):
+        for path in DOCUMENTS:
+            for sentence in sentences(text(path)):
+                self.assertLessEqual(len(sentence.split()), MOST_WORDS, f"{path}: {sentence[:100]}")
+
+    def test_the_page_on_proofs_names_functions_and_clauses_that_stand(self):
+        lists = lists_of(read_rooms())
+        for section in re.split(r"^## ", text("docs/PROVED.md"), flags=re.M)[1:]:
+            crates = [crate for crate in lists if re.search(rf"\b{crate}\b", section.splitlines()[0])]
+            names = set().union(*(names_in(crate) for crate in crates + [library for crate in crates for library in lists[crate] if library in lists]))
+            for row in re.findall(r"^\| (.*) \|$", section, re.M):
+                for name in named(row.split(" | ")[1:]):
+                    self.assertTrue(name in names, f"{section.splitlines()[0]}: {name} in {row[:100]}")
+
+    def test_the_page_on_meaning_names_definitions_that_stand(self):
+        names = set().union(*map(names_in, lists_of(read_rooms())))
+        for cited in re.findall(r"Definitions?: ([^\n]*)", text("docs/MEANING.md")):
+            for name in named([cited]):
+                self.assertTrue(name in names, f"{name} in {cited[:100]}")
+
+    def test_the_recipes_name_files_that_stand(self):
+        rows = re.findall(r"^\| (.*) \| (.*) \|$", text("CONTRIBUTING.md"), re.M)
+        named_files = 0
+        for where, what in rows:
+            folders = [os.path.join(TOP, "crates", name) for name in re.findall(r"`(\w+)`", where)] + [os.path.join(TOP, name) for name in re.findall(r"`(tools/[\w/]+)`", where)]
+            files = [path for folder in folders for path in glob.glob(os.path.join(folder, "**", "*.*"), recursive=True)]
+            for name in re.findall(r"`([\w/]+\.(?:rt|antt|py))`", what) if folders else ():
+                self.assertTrue(any(path.endswith(os.sep + name) for path in files), f"{where}: {name}")
+                named_files += 1
+        self.assertGreater(named_files, 50)
 
     def test_the_page_on_viewing_names_what_a_run_leaves(self):
         page = text("docs/VIEWING.md")

@@ -37,11 +37,21 @@ class Judged(unittest.TestCase):
     def test_what_seldom_shows_is_refused_by_examples(self):
         names = ("what was below a destroyed layer stands at the root", "a new parent takes a layer from what it is relative to", "a layer that gets a z stays relative",
                  "a layer that is relative to a hidden one is shown", "a mirror with copies inside", "a copy has the place of its original",
-                 "copies are older than all layers", "a merge takes the earlier time")
+                 "copies are older than all layers", "a merge takes the earlier time",
+                 "an arrival passed over: of those that are ready the first waits for the vsync behind the last one",
+                 "a vsync stops after one commit, and passes over an arrival before it",
+                 "a circle of modes: two actors call two queues, and each is the first on one of them",
+                 "a release before its frame: the compositor gives back what is not yet queued")
         found = judge_wrong((), [fault for fault in WRONG if fault.name in names])
         self.assertEqual(len(found), len(names))
         for one in found:
             self.assertTrue(one.shown() and one.is_right(), one.text())
+
+    def test_what_only_the_order_refuses(self):
+        for name, part in (("an arrival passed over", "passed over"), ("a vsync stops after one commit", "passed over"),
+                           ("a circle of modes", "one order"), ("a release before its frame", "one order")):
+            one = judge_wrong((), [fault for fault in WRONG if fault.name.startswith(name)])[0]
+            self.assertEqual(set(one.verdicts), {part}, name)
 
     def test_what_is_said(self):
         free = next(fault for fault in WRONG if fault.free and fault.name.startswith("a vsync commits one"))
@@ -49,7 +59,7 @@ class Judged(unittest.TestCase):
         never = Wrong("nothing is wrong", None, None, lambda scene, records: records)
         taken_as_wrong = free._replace(free="")
         said = [(one.is_right(), one.text()) for one in judge_wrong(range(1, 30), [free, refused, never, taken_as_wrong])]
-        self.assertTrue(said[0][0] and said[0][1].startswith("free: a vsync commits one transaction at most: refused 0 of "), said[0])
+        self.assertTrue(said[0][0] and said[0][1].startswith("free: a vsync commits one transaction at most: refused ") and ", by passed over: how soon " in said[0][1], said[0])
         self.assertTrue(said[1][0] and said[1][1].startswith("a REPL is left out: refused 5 of 5 times, by "), said[1])
         self.assertEqual(said[2], (True, "never shown: nothing is wrong"))
         self.assertTrue(not said[3][0] and said[3][1].startswith("NOT REFUSED: ") and "; accepted for the scenes " in said[3][1], said[3])

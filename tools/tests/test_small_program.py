@@ -90,7 +90,7 @@ class Made(unittest.TestCase):
     def test_what_it_calls_of_sf_app_takes_what_it_gives(self):
         text = self.contents("crates", small_program.NAME, "src", "play.rt")
         head = re.search(r"^pub fn play\b.*?\((.*?)\) ->", text, re.M | re.S).group(1)
-        self.assertEqual(re.findall(r"(\w+): ", head), ["rt", "alloc", "workers", "sink", "scene"])
+        self.assertEqual(re.findall(r"(\w+): ", head), ["engine", "sink", "scene"])
 
     def test_sources_are_copied_without_contracts_and_proofs(self):
         with open(os.path.join(run.TOP, "crates", "sf_app", "src", "play.rt"), encoding="utf-8") as file:

@@ -139,8 +139,10 @@ class Sources:
             return None
         if below and below[0] == "declared":
             return self.declared(crate, below[1:], name)
-        if below and self.file(crate, SPECS, below[0]):
-            return self.in_file(crate, SPECS, below[0], name=below[1] if len(below) > 1 else name)
+        for depth in range(len(below), 0, -1):
+            module = ".".join(below[:depth])
+            if self.file(crate, SPECS, module):
+                return self.in_file(crate, SPECS, module, name=below[depth] if depth < len(below) else name)
         handed = self.scope(crate, SPECS, ROOTS[SPECS]).modules
         if not below or below[0] not in handed:
             raise Unread(f"{'.'.join(path)} leads nowhere")

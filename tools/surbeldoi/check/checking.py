@@ -1,14 +1,18 @@
 """Whether the records of a run mean what their scene allows: docs/MEANING.md part by part, from script and records alone.
 
 The parts are checked in the order in which one needs what another finds: the order of the records, the traces with the
-replies, the arrivals, the commits with what they release, the calls on queues, and then all that is said of these. The
-first part that is found not to hold refuses the records.
+replies, the arrivals, the commits with what they release, the calls on queues, and then all that is said of these. Behind them
+stand parts that the meaning does not have: all that happened fits one order, no vsync passes over an arrival, and what is known
+without a call fits that order, too. The first part that is found not to hold refuses the records.
 """
 
 from collections import Counter
 
+from surbeldoi.check.events import check_one_order
 from surbeldoi.check.histories import History, check_histories_are_due
+from surbeldoi.check.learning import learned_in
 from surbeldoi.check.ordering import Ordered, Refused, early_reply
+from surbeldoi.check.passing import Passing
 from surbeldoi.check.tracing import check_fences, step_text, traces_of
 from surbeldoi.check.vsyncs import Vsyncs, released_by
 from surbeldoi.model.playing import Play
@@ -111,10 +115,15 @@ def check_meaning(scene, shown, is_queue, vsyncs_of=Vsyncs):
     makers = makers_of(traces.attachings, sum(len(history.fields["calls"]) for history in shown.histories))
     check_turns(traces, makers)
     vsyncs = vsyncs_of(traces, arrivals)
+    passing = Passing(traces, vsyncs, shown.arrivals.fields["arrivals"])
     for vsync in shown.vsyncs:
         vsyncs.check(vsync)
+        passing.look(vsync)
     check_held(traces, vsyncs, shown.held)
     check_stuck(traces, Waiting(traces, makers, {number: history.queue for number, history in histories.items()}), shown.stuck)
+    check_one_order(scene, shown, not is_queue)
+    passing.check()
+    check_one_order(scene, shown, not is_queue, learned_in(traces, makers, shown.vsyncs), "learned")
 
 
 def check_play(play, records):

@@ -61,7 +61,7 @@ class Traces(Follower):
 
     def __init__(self, scene, shown):
         super().__init__(scene)
-        self.reply_now, self.signals = None, {}
+        self.reply_now, self.signals, self.signalled = None, {}, []
         self.sent = {actor: [] for actor in scene.actors}
         self.passed = {actor: [] for actor in scene.actors}
         self.entered, self.owed, self.attachings = [], {}, []
@@ -115,6 +115,7 @@ class Traces(Follower):
     def signal(self, actor, timeline, value):
         super().signal(actor, timeline, value)
         self.signals.setdefault(timeline, {0}).add(value)
+        self.signalled.append((actor.number, actor.place(), timeline, value))
         self.passed[actor.number].append(Passed(self.reply_now, queues.fence_of([(timeline, value)])))
 
     def send(self, actor, token, txn):
@@ -164,12 +165,16 @@ def check_passed(scene, traces, passed):
     return passed.fence
 
 
+def is_fenced(kept):
+    """Whether a detach has to look at the fence of its buffer."""
+    return not isinstance(kept.token, Lent) or kept.asked or kept.token.came_requested
+
+
 def check_kept(scene, traces, kept, known):
     """The points that a detach shows, where `known` are those that the steps before have shown."""
-    is_fenced = not isinstance(kept.token, Lent) or kept.asked or kept.token.came_requested
     if kept.is_made:
-        return check_passed(scene, traces, Passed(kept.reply, kept.token.fence)) if is_fenced else {}
-    if not is_fenced:
+        return check_passed(scene, traces, Passed(kept.reply, kept.token.fence)) if is_fenced(kept) else {}
+    if not is_fenced(kept):
         raise Refused("traces", step_text(scene, kept.reply), "it made no call, and does so only for a buffer that was requested")
     if queues.open_point(kept.token.fence, known) is None:
         raise Refused("traces", step_text(scene, kept.reply), "it is refused without a call, though steps before have shown its fence to be signalled")

@@ -298,7 +298,8 @@ COMMANDS = {
     "explain": Command("the fault of a script that is no scene: its line, the word, the cause, and what would be right there", take_explain, explain),
     "why": WHY,
     "diff": DIFF,
-    "check": Command("whether the records mean what the scene of the script allows (docs/MEANING.md), by these two alone", take_check, check, NOT_CHECKED),
+    "check": Command("whether the records mean what the scene of the script allows (docs/MEANING.md), fit one order and pass nobody over "
+                     "(docs/RECORDS.md), by these two alone", take_check, check, NOT_CHECKED),
 }
 
 

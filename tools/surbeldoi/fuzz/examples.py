@@ -27,4 +27,12 @@ MIRRORS = (
     "mirror 3 1\nmirror 4 5\n" + BEGIN + "set 1 5 create container 0\nset 1 3 create container 5\nset 1 4 create container 0\nset 1 4 position 1 1\n",
     "mirror 3 2\n" + BEGIN + "set 1 3 create container 0\nset 1 4 create colour 3\nset 1 4 crop 0 0 1 1\nset 1 4 colour 0000ffff\n",
 )
+ORDERS = (
+    # Two actors set the modes of two queues, and send a transaction each. A frame of a queue goes in the end.
+    "queue 1 1 1\nqueue 2 1 1\nactor 1\nasync 1 0\nasync 2 0\nactor 2\nasync 2 0\nasync 1 0\norder 1*2 2*2\nend\n",
+    "queue 1 1 1\npicture 1 1 1\nactor 1\nconnect 1\ndequeue 1 as s\nrequest s\ndraw s 1\nqueue s 1\nacquire 1 as i\ntx 1\nset 1 1 create buffer 0\nbuffer 1 1 i\n"
+    "apply 1 token 1\ntx 1\nset 1 1 destroy\napply 1 token 1\norder 1*10 v 1*3 v\nend\n",
+    "actor 1\ntx 1\nset 1 1 create colour 0\napply 1 token 2\nactor 2\ntx 1\nset 1 2 create colour 0\napply 1 token 1\norder 1*3 2*3 v\nend\n",
+)
 EXAMPLES = tuple(("scene 1 2 2 1000000\n" + BEGIN + more + END).encode() for more in TREES) + tuple((SECOND + more + END).encode() for more in MIRRORS)
+EXAMPLES += tuple((SECOND + script).encode() for script in ORDERS)

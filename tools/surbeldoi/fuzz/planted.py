@@ -11,8 +11,8 @@ from surbeldoi.model import commits, outputs, painting, playing, queues, trees
 from surbeldoi.model.commits import Stage
 from surbeldoi.model.outputs import OWN_STACK
 from surbeldoi.model.painting import Placements
-from surbeldoi.model.playing import Play, World
-from surbeldoi.model.queues import ACQUIRE, ACQUIRED, ATTACH, CANCEL, DEQUEUE, DISCONNECT, QUEUE, RELEASE, Queue
+from surbeldoi.model.playing import COMPOSITOR, Play, World
+from surbeldoi.model.queues import ACQUIRE, ACQUIRED, ATTACH, CANCEL, DEQUEUE, DISCONNECT, QUEUE, RELEASE, STALE, Queue
 from surbeldoi.model.steps import Actor
 from surbeldoi.model.transactions import (BARRIER, FENCE, PRESSURE, SHOW, TIME, UNDRAWN, Transaction, barrier_hold, fence_hold, pressure_hold, time_hold, undrawn_hold)
 
@@ -29,14 +29,16 @@ class Wrong(NamedTuple):
 
 
 WRONG = []
-WHEN_READY = "how soon a transaction that is ready commits is free"
-BY_FINAL_VALUES = "the records do not tell when a step of another actor signals: a step that waits is right if its point is signalled in the end"
-BY_FINAL_DRAWS = "the records do not tell when another actor draws: a draw is right if what is owed before is drawn by another actor, or by an earlier step"
-DRAWN = "the records do not tell when a draw is done: a frame counts as drawn where the run draws it at all"
-SEEN = "which of two signalled values a vsync saw is free, where no hold turns on it"
+WHEN_READY = "how soon a transaction that is ready commits is free, where no later arrival is committed before it"
+NO_LATER = "unless the order of calls tells that this was later"
+BY_FINAL_VALUES = f"the records do not tell when a step of another actor signals: a step that waits is right if its point is signalled in the end, {NO_LATER}"
+BY_FINAL_DRAWS = ("the records do not tell when another actor draws: a draw is right if what is owed before is drawn by another actor, or by an earlier step, "
+                  f"{NO_LATER}")
+DRAWN = f"the records do not tell when a draw is done: a frame counts as drawn where the run draws it at all, {NO_LATER}"
+SEEN = f"which of two signalled values a vsync saw is free, where no hold turns on it, {NO_LATER}"
 NOT_SHOWN = "whether a detach is refused for its fence is free, where the steps of its actor before have not shown that it is signalled"
 NO_TURN = "the order of replies to different actors is free"
-NEIGHBOURS = "the order of neighbours in a history is free where no reply changes"
+NEIGHBOURS = "the order of neighbours in a history is free where no reply changes and some order of all that happened fits"
 
 
 def wrong(name, owner, attribute, free=""):
@@ -207,6 +209,43 @@ def one_by_one(right):
             return right(play)
         finally:
             play.hold, play.next_token = hold, next_token
+    return decide
+
+
+def plain_ready(play):
+    """The first transactions of tokens that nothing holds and that show no frame, by the numbers of their arrivals: nothing but a vsync
+    changes that."""
+    first = (pending[0] for pending in play.world.pending.values())
+    return {number: txn for number, txn in first if not txn.buffers() and play.hold(txn) is None}
+
+
+def leaving(play, right, left):
+    """The records of the commits of a vsync that leaves these transactions, ready or not."""
+    hold = play.hold
+    play.hold = lambda txn: hold(txn) or ((TIME, 0, 0) if any(one is txn for one in left) else None)
+    try:
+        return right(play)
+    finally:
+        play.hold = hold
+
+
+@wrong("an arrival passed over: of those that are ready the first waits for the vsync behind the last one", Play, "decide")
+def passed_over(right):
+    def decide(play):
+        ready = plain_ready(play)
+        return leaving(play, right, [ready[min(ready)]] if len(ready) > 1 else [])
+    return decide
+
+
+@wrong("a vsync stops after one commit, and passes over an arrival before it", Play, "decide")
+def stopped_after_one(right):
+    def decide(play):
+        ready = plain_ready(play)
+        token = play.next_token()
+        number, txn = play.world.pending[token][0] if token is not None else (0, None)
+        if not ready or min(ready) >= number:
+            return right(play)
+        return leaving(play, right, [one for pending in play.world.pending.values() for _, one in pending if one is not txn])
     return decide
 
 
@@ -682,4 +721,41 @@ def calls_swapped(scene, records):
         for at in range(len(calls) - 1):
             if calls[at][0] != calls[at + 1][0] and calls[at][3] and calls[at + 1][3]:
                 return with_fields(records, place, calls=calls[:at] + [calls[at + 1], calls[at]] + calls[at + 2:])
+    return None
+
+
+def closing_a_circle(histories):
+    """The place of a history, and in it that of a call which has to come before the one behind it: the actor of the first call made one
+    in a later step, which stands in another history before one that the other actor made in an earlier step."""
+    for place, calls in histories.items():
+        others = [[call[:2] for call in more] for of, more in histories.items() if of != place]
+        for at, (first, last) in enumerate(zip(calls, calls[1:])):
+            if first[0] != last[0] and COMPOSITOR not in (first[0], last[0]) and any(is_between(more, first[:2], last[:2]) for more in others):
+                return place, at
+    return None
+
+
+def is_between(calls, first, last):
+    """Whether a history has a call that an actor made behind one of its steps, and behind it one that another made before one of its own."""
+    behind = next((at for at, (by, step) in enumerate(calls) if by == first[0] and step > first[1]), len(calls))
+    return any(by == last[0] and step < last[1] for by, step in calls[behind:])
+
+
+@wrong_records("a circle of modes: two actors call two queues, and each is the first on one of them")
+def circle_of_modes(scene, records):
+    found = closing_a_circle({place: records[place].fields["calls"] for place in places_of(records, "HIST")})
+    if found is None:
+        return None
+    place, at = found
+    calls = records[place].fields["calls"]
+    return with_fields(records, place, calls=calls[:at] + [calls[at + 1], calls[at]] + calls[at + 2:])
+
+
+@wrong_records("a release before its frame: the compositor gives back what is not yet queued")
+def released_before(scene, records):
+    for place in places_of(records, "HIST"):
+        calls = records[place].fields["calls"]
+        if [call[0] for call in calls[-1:]] == [COMPOSITOR] and [call[0] for call in calls].count(COMPOSITOR) == 1:
+            release = calls[-1]
+            return with_fields(records, place, calls=[(*release[:3], STALE, *release[4:])] + calls[:-1])
     return None
