@@ -48,8 +48,8 @@ pub trait Desk<K: Tokens> {
         ensures no_memory { IfFaultNoMemory result (λ back. (back ≡ call) × IsAsBefore (view self.old) (view self.new)) }
         ensures home { home self.new ≡ home self.old };
 
-    /// Sends a transaction, for a step of an actor, from 1. The number of the arrival, from 1. For
-    /// want of memory the transaction comes back, and nothing was done.
+    /// Sends a transaction, for a step of an actor, from 1. The number of the arrival, from 1. Out
+    /// of memory the transaction comes back, and what the desk shows is as before.
     fn send(&mut self, by: ActorId, step: u32, txn: K::Sent) -> Result<u32, (NoMemory, K::Sent)>
         requires served { (home self.old).serves by.0 ≡ true }
         ensures sent { IfOk result (MadeSend (home self.old) (view self.old) (view self.new) by.0 step (K.sent txn)) }

@@ -2,7 +2,7 @@
 //! views have different stacks, and the part of each layer that no opaque layer above it hides.
 //!
 //! A frame is composed over the one before it: only where something changed, and of each layer only
-//! what shows. Layers that did not change cost comparisons, and no operations on regions.
+//! what shows.
 #![tactic(auto)]
 
 mod bounds;

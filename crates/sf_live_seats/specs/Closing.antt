@@ -102,7 +102,7 @@ module _ {B : Type 0} where
   GoesOnIn by last own = GoesOnWithout by own.seen last.seen
 
   -- Along the calls on each queue, and along those on the arrivals, the stamps rise. What each caller knew whose seats were taken in
-  -- goes on without a further call of it; its own calls it made in order.
+  -- goes on without a further call of it.
   pub record IsOrdered (first : FirstSeats B) : Type 0 where
     pub queues : AllByRecursion (λ (pass : QueuePass B). StampsRise pass.seen) first.seats.queues.items
     pub arrivals : StampsRise first.seats.arrivals.seen

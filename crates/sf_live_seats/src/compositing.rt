@@ -132,8 +132,8 @@ impl<B: TableName> Seats<B> {
     }
 
     /// Takes the transactions that arrived, and waits for its turn under the lock: the first caller's
-    /// right, whose number is 0. What was sent through the intake arrives first. Want of memory leaves
-    /// them.
+    /// right, whose number is 0. What was sent through the intake is brought in first; no clause says
+    /// so. Out of memory leaves them.
     pub fn take<R: Wait>(
         &mut self,
         locks: &Locks<B>,

@@ -1,3 +1,4 @@
+pub mod LeapLemmas
 pub mod SameLemmas
 pub mod SolidLemmas
 pub mod SpanLemmas

@@ -87,7 +87,7 @@ colour_of-if true fill rest = refl
 colour_of-if false fill rest = refl
 
 -- one fill more covers what it covers
-colour_at-more : (fills : List Fill) (i : ℕ) (d : Fill) (x y : ℕ) → i < length fills → colour_at (take (i + 1) fills) x y ≡ (if covers (get_or fills i d).rect (pos x) (pos y) then (get_or fills i d).colour else colour_at (take i fills) x y)
+pub colour_at-more : (fills : List Fill) (i : ℕ) (d : Fill) (x y : ℕ) → i < length fills → colour_at (take (i + 1) fills) x y ≡ (if covers (get_or fills i d).rect (pos x) (pos y) then (get_or fills i d).colour else colour_at (take i fills) x y)
 colour_at-more fills i d x y h =
     let e : reverse (take (i + 1) fills) ≡ get_or fills i d ∷ reverse (take i fills) = rw (take_more fills i d h, reverse-append) refl in
     rw e (colour_of-if (covers (get_or fills i d).rect (pos x) (pos y)) (get_or fills i d) (find (λ fill. covers fill.rect (pos x) (pos y)) (reverse (take i fills))))

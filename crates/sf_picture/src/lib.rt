@@ -7,6 +7,7 @@ mod cover;
 mod fill;
 mod painted;
 mod picture;
+mod rows;
 mod solid;
 mod spans;
 

@@ -7,6 +7,7 @@ ghost use Rattle.sf_picture.specs.inner.Spans.{ShowsFills, ShowsNothing};
 
 use crate::cover::TRANSPARENT;
 use crate::picture::Picture;
+use crate::rows::{is_faster_by_rows, paint_rows};
 use crate::solid::are_all_solid;
 use crate::spans::{count_covered, fill_span, paint_fill};
 use sf_base::{Format, NoMemory, seen_as};
@@ -120,6 +121,10 @@ fn paint_all(bytes: &mut [u8], picture: &Picture)
     requires room { length bytes.old ≡ 4 * (picture.now.width * picture.now.height) }
     ensures { ShowsPicture picture.now bytes.new }
 {
+    if is_faster_by_rows(picture) {
+        paint_rows(bytes, picture);
+        return;
+    }
     let painted = paint_ground(bytes, picture);
     let fills = picture.fills.as_slice();
     for at in painted..fills.len() {

@@ -1,6 +1,6 @@
 //! A lease to write in two parts: what it says of its buffer, and how far its work has come.
 ghost use Rattle.std.specs.Prelude.{◌≡◌};
-ghost use Rattle.sf_surface.specs.Lent.{lease_with, lent_of};
+ghost use Rattle.sf_surface.specs.inner.Lent.{lease_with, lent_of};
 ghost use Rattle.sf_surface.specs.Tokens.{IsWriteLease};
 
 use crate::token::WriteLease;

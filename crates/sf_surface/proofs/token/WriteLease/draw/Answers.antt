@@ -2,7 +2,7 @@ use Rattle.std.proofs.Common.{◌≡◌, ◌∙◌, ap, rules, subst, sym}
 use Rattle.sf_surface.specs.declared.work.Work.{Work}
 use Rattle.sf_surface.specs.declared.work.Work.TheVariants as work
 use Rattle.sf_surface.specs.Drawing.{Enters, MayBegin, drawn_with}
-use Rattle.sf_surface.specs.Lent.{lease_with}
+use Rattle.sf_surface.specs.inner.Lent.{lease_with}
 use Rattle.sf_surface.specs.Tokens.{turn_of}
 use Rattle.sf_surface.proofs.token.WriteLease.draw.Goals as goal
 
