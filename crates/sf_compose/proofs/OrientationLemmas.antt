@@ -210,6 +210,57 @@ steps_from crop orient place left k y width height few lies here there =
     (oriented_point crop orient _ _ few)
     (oriented_point crop orient _ _ few)
 
+-- one row further down in the box of a crop on its side is one pixel on in the picture, or back
+
+module _ (crop : Rect) (orient : ℕ) (place : ℤ × ℤ) (x y k width height : ℕ) (few : orient ≤ 7) (side : is_sideways orient ≡ true) (lies : LiesWithin crop width height)
+    (here : covers (box_of crop orient place) (pos x) (pos y) ≡ true) (there : covers (box_of crop orient place) (pos x) (pos (y + k)) ≡ true) where
+  abbrev upper : ℤ × ℤ
+  upper = point_shown crop orient place (pos x) (pos y)
+
+  abbrev lower : ℤ × ℤ
+  lower = point_shown crop orient place (pos x) (pos (y + k))
+
+  upper_in : IsPoint width height upper
+  upper_in = point_in crop orient place (pos x) (pos y) width height few lies here
+
+  lower_in : IsPoint width height lower
+  lower_in = point_in crop orient place (pos x) (pos (y + k)) width height few lies there
+
+  same_line : unsigned upper.1 ≡ unsigned lower.1
+  same_line =
+      let p : upper.1 ≡ along (is_back_down orient) crop.y crop.height (pos x +ℤ neg_ℤ place.0) = rw side at (ap (λ (z : ℤ × ℤ). z.1) (oriented_point crop orient (pos x +ℤ neg_ℤ place.0) (pos y +ℤ neg_ℤ place.1) few)) in
+      let q : lower.1 ≡ along (is_back_down orient) crop.y crop.height (pos x +ℤ neg_ℤ place.0) = rw side at (ap (λ (z : ℤ × ℤ). z.1) (oriented_point crop orient (pos x +ℤ neg_ℤ place.0) (pos (y + k) +ℤ neg_ℤ place.1) few)) in
+      ap unsigned (p ∙ sym q)
+
+  pub row_on : is_back_across orient ≡ false → number_of width lower ≡ number_of width upper + k
+  row_on on =
+      let p : upper.0 ≡ after_first crop.x (pos y +ℤ neg_ℤ place.1) = rw (side, on) at (ap (λ (z : ℤ × ℤ). z.0) (oriented_point crop orient (pos x +ℤ neg_ℤ place.0) (pos y +ℤ neg_ℤ place.1) few)) in
+      let q : lower.0 ≡ after_first crop.x (pos (y + k) +ℤ neg_ℤ place.1) = rw (side, on) at (ap (λ (z : ℤ × ℤ). z.0) (oriented_point crop orient (pos x +ℤ neg_ℤ place.0) (pos (y + k) +ℤ neg_ℤ place.1) few)) in
+      let at = upper_in.column in
+      let to = lower_in.column in
+      let columns : unsigned lower.0 ≡ unsigned upper.0 + k = omega (arith, ints, p, q, at, to) in
+      let rows : unsigned lower.1 * width ≡ unsigned upper.1 * width = ap (λ (n : ℕ). n * width) (sym same_line) in
+      omega (arith, columns, rows)
+
+  pub row_back : is_back_across orient ≡ true → number_of width upper ≡ number_of width lower + k
+  row_back on =
+      let p : upper.0 ≡ before_last crop.x crop.width (pos y +ℤ neg_ℤ place.1) = rw (side, on) at (ap (λ (z : ℤ × ℤ). z.0) (oriented_point crop orient (pos x +ℤ neg_ℤ place.0) (pos y +ℤ neg_ℤ place.1) few)) in
+      let q : lower.0 ≡ before_last crop.x crop.width (pos (y + k) +ℤ neg_ℤ place.1) = rw (side, on) at (ap (λ (z : ℤ × ℤ). z.0) (oriented_point crop orient (pos x +ℤ neg_ℤ place.0) (pos (y + k) +ℤ neg_ℤ place.1) few)) in
+      let at = upper_in.column in
+      let to = lower_in.column in
+      let columns : unsigned upper.0 ≡ unsigned lower.0 + k = omega (arith, ints, p, q, at, to) in
+      let rows : unsigned lower.1 * width ≡ unsigned upper.1 * width = ap (λ (n : ℕ). n * width) (sym same_line) in
+      omega (arith, columns, rows)
+
+-- the number of a point of a picture is small
+pub point_small : (width height : ℕ) (p : ℤ × ℤ) → IsPoint width height p → width ≤ 512 → height ≤ 512 → number_of width p ≤ 262144
+point_small width height p at narrow low =
+    let wide = at.wide in
+    let high = at.high in
+    let above : suc (unsigned p.1) * width ≤ 512 * width = mul-le-mul_right width (omega (arith, high, low)) in
+    let next : suc (unsigned p.1) * width ≡ unsigned p.1 * width + width = omega arith in
+    omega (arith, above, next, wide, narrow)
+
 -- the number of a point is below that of the picture's pixels
 pub number_low : (width height : ℕ) (p : ℤ × ℤ) → IsPoint width height p → number_of width p < width * height
 number_low width height p at =
@@ -295,17 +346,25 @@ pixel_by : (picture : Picture) (bytes : List ℕ) (q : ℤ × ℤ) → ShowsPict
 pixel_by picture bytes q shows at = shows.pixels (unsigned q.0) (unsigned q.1) at.wide at.high
 
 -- and the pixel that is picked there is the one that is shown
+pub shown_pixel : (picture : Picture) (crop : Rect) (orient : ℕ) (place : ℤ × ℤ) (left k y first : ℕ) (step : ℤ) (bytes : List ℕ) (pixel : Rgba) → orient ≤ 7 → LiesWithin crop picture.width picture.height
+    → covers (box_of crop orient place) (pos left) (pos y) ≡ true → covers (box_of crop orient place) (pos (left + k)) (pos y) ≡ true → ShowsPicture picture bytes
+    → first ≡ number_of picture.width (point_shown crop orient place (pos left) (pos y)) → step ≡ step_of orient picture.width
+    → ((j : ℕ) → pos j ≡ picked first step k → pixel ≡ pixel_in bytes j)
+    → pixel ≡ pixel_shown picture crop orient place (pos (left + k)) (pos y)
+shown_pixel picture crop orient place left k y first step bytes pixel few lies here there shows is_first is_step each =
+    let steps = steps_from crop orient place left k y picture.width picture.height few lies here there in
+    let one : picked (number_of picture.width (point_shown crop orient place (pos left) (pos y))) (step_of orient picture.width) k ≡ picked first (step_of orient picture.width) k = ap (λ (n : ℕ). picked n (step_of orient picture.width) k) (sym is_first) in
+    let other : picked first (step_of orient picture.width) k ≡ picked first step k = ap (λ (z : ℤ). picked first z k) (sym is_step) in
+    each _ (steps ∙ (one ∙ other))
+    ∙ pixel_by picture bytes _ shows (point_in crop orient place (pos (left + k)) (pos y) picture.width picture.height few lies there)
+
 pub oriented_pixel : (picture : Picture) (crop : Rect) (orient : ℕ) (place : ℤ × ℤ) (left k y first : ℕ) (step : ℤ) (bytes new : List ℕ) → orient ≤ 7 → LiesWithin crop picture.width picture.height
     → covers (box_of crop orient place) (pos left) (pos y) ≡ true → covers (box_of crop orient place) (pos (left + k)) (pos y) ≡ true → ShowsPicture picture bytes
     → first ≡ number_of picture.width (point_shown crop orient place (pos left) (pos y)) → step ≡ step_of orient picture.width
     → ((j : ℕ) → pos j ≡ picked first step k → pixel_in new k ≡ pixel_in bytes j)
     → pixel_in new k ≡ pixel_shown picture crop orient place (pos (left + k)) (pos y)
 oriented_pixel picture crop orient place left k y first step bytes new few lies here there shows is_first is_step each =
-    let steps = steps_from crop orient place left k y picture.width picture.height few lies here there in
-    let one : picked (number_of picture.width (point_shown crop orient place (pos left) (pos y))) (step_of orient picture.width) k ≡ picked first (step_of orient picture.width) k = ap (λ (n : ℕ). picked n (step_of orient picture.width) k) (sym is_first) in
-    let other : picked first (step_of orient picture.width) k ≡ picked first step k = ap (λ (z : ℤ). picked first z k) (sym is_step) in
-    each _ (steps ∙ (one ∙ other))
-    ∙ pixel_by picture bytes _ shows (point_in crop orient place (pos (left + k)) (pos y) picture.width picture.height few lies there)
+    shown_pixel picture crop orient place left k y first step bytes (pixel_in new k) few lies here there shows is_first is_step each
 
 -- each pixel that an oriented crop of a solid picture shows is solid
 pub pixel_solid : (picture : Picture) (crop : Rect) (orient : ℕ) (place : ℤ × ℤ) (x y : ℤ) → IsSolid picture → orient ≤ 7 → LiesWithin crop picture.width picture.height → covers (box_of crop orient place) x y ≡ true → (pixel_shown picture crop orient place x y).a ≡ 255

@@ -43,4 +43,5 @@ pub use sf_damage::sf_picture::Painted;
 pub use sf_damage::sf_region::Region;
 pub use sf_damage::sf_view::{Content, Drawn, View};
 pub use sf_damage::{dirty, visible};
+pub use share::painted_at_most;
 pub use whole::compose_frame;

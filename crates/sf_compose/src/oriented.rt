@@ -40,14 +40,14 @@ const MOST_COLUMNS: u32 = 512;
 const COLUMNS_SIDEWAYS: u32 = 128;
 
 /// Whether the crop's columns are shown as rows.
-fn is_sideways(orient: u8) -> bool
+pub fn is_sideways(orient: u8) -> bool
     ensures { result ≡ is_sideways orient }
 {
     orient % 2 == 1
 }
 
 /// Whether a crop's columns are shown from the last one back.
-fn is_back_across(orient: u8) -> bool
+pub fn is_back_across(orient: u8) -> bool
     ensures { result ≡ is_back_across orient }
 {
     2 <= orient && orient <= 5
@@ -112,7 +112,7 @@ fn shown_point(picture: &Picture, oriented: Oriented, x: u32, y: u32) -> (u32, u
 }
 
 /// How many pixels further in the picture the pixel of the next column to the right stands.
-fn step_of(picture: &Picture, orient: u8) -> i32
+pub fn step_of(picture: &Picture, orient: u8) -> i32
     requires size { HasSize picture.now }
     ensures { result ≡ step_of orient picture.now.width }
 {
@@ -130,7 +130,7 @@ fn step_of(picture: &Picture, orient: u8) -> i32
 }
 
 /// The number of the pixel that a crop shows at a point of its box.
-fn shown_number(picture: &Picture, oriented: Oriented, x: u32, y: u32) -> u32
+pub fn shown_number(picture: &Picture, oriented: Oriented, x: u32, y: u32) -> u32
     requires size { HasSize picture.now }
     requires crop { LiesWithin oriented.crop picture.now.width picture.now.height }
     requires orient { oriented.orient ≤ 7 }

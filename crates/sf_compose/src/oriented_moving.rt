@@ -1,5 +1,5 @@
 //! Copies oriented crops of pictures that hide what lies below.
-ghost use Rattle.std.specs.Prelude.{◌≡◌, ◌+◌, ◌-◌, ◌*◌, ◌<◌, ◌≤◌, ℕ, Bool, length, pos, true};
+ghost use Rattle.std.specs.Prelude.{◌≡◌, ◌+◌, ◌-◌, ◌*◌, ◌%◌, ◌<◌, ◌≤◌, ℕ, Bool, if◌then◌else◌, length, pos, true};
 ghost use Rattle.sf_base.specs.Geometry.{covers, LiesWithin};
 ghost use Rattle.sf_base.specs.Paint.{painted};
 ghost use Rattle.sf_base.specs.declared.pixel.Rgba.{Rgba as RgbaValue};
@@ -7,13 +7,17 @@ ghost use Rattle.sf_compose.specs.inner.Bands.{HasRows, IsInBand};
 ghost use Rattle.sf_compose.specs.inner.Painting.{is_in_area, Paints, PaintsSpan};
 ghost use Rattle.sf_compose.specs.inner.Orientations.{pixel_shown};
 ghost use Rattle.sf_damage.specs.sf_picture.Solid.{IsSolid};
-ghost use Rattle.sf_damage.specs.sf_view.Boxes.{box_of};
+ghost use Rattle.sf_damage.specs.sf_view.Boxes.{box_of, is_sideways};
 ghost use Rattle.sf_damage.specs.sf_view.Contents.{source_of};
 
 use crate::area::Area;
 use crate::band::{Band, row_start};
-use crate::oriented::{Oriented, columns_at_once, columns_from, pick_oriented};
+use crate::oriented::{
+    Oriented, columns_at_once, columns_from, is_back_across, is_sideways, pick_oriented,
+    shown_number, step_of,
+};
 use sf_damage::sf_picture::Painted;
+use sf_rows::{FourRows, pick_four_rows};
 
 /// Moves the points of a row from one on and before another, where the row starts at a pixel of the
 /// frame.
@@ -65,6 +69,146 @@ fn move_oriented_rows(
     }
 }
 
+/// Of four rows from one on, the row whose pixels have the lowest numbers in the picture.
+fn lowest_row(back: bool, top: u32) -> u32
+    requires { top + 3 < 4294967296 }
+    ensures { result ≡ (if back then top + 3 else top) }
+{
+    if back { top + 3 } else { top }
+}
+
+/// Moves four rows of a crop that stands on its side, and of a solid picture.
+fn move_four_rows(picture: &Painted, oriented: Oriented, frame: &mut [u8], band: Band, area: Area)
+    requires crop { LiesWithin oriented.crop picture.now.width picture.now.height }
+    requires orient { oriented.orient ≤ 7 }
+    requires side { is_sideways oriented.orient ≡ true }
+    requires solid { IsSolid picture.now }
+    requires across { area.left < area.right }
+    requires columns { (area.right - area.left) % 4 ≡ 0 }
+    requires rows { area.bottom ≡ area.top + 4 }
+    requires inside { (x y : ℕ) → is_in_area area x y ≡ true → covers (box_of oriented.crop oriented.orient oriented.place) (pos x) (pos y) ≡ true }
+    requires within { IsInBand band area }
+    requires room { HasRows band frame.old }
+    ensures { (opaque : Bool) (below : ℕ → ℕ → RgbaValue → RgbaValue) → Paints band.width band.top (is_in_area area) (λ x y under.
+        painted (below x y under) (source_of opaque (pixel_shown picture.now oriented.crop oriented.orient oriented.place (pos x) (pos y))) 255) frame.old frame.new }
+{
+    let back = is_back_across(oriented.orient);
+    let row = lowest_row(back, area.top);
+    let first = shown_number(picture.picture(), oriented, area.left, row);
+    let step = step_of(picture.picture(), oriented.orient);
+    let rows = FourRows {
+        start: row_start(band, area.top) + area.left as usize,
+        apart: band.width as usize,
+        length: (area.right - area.left) as usize,
+    };
+    pick_four_rows(frame, rows, picture.bytes(), first, step, back);
+}
+
+/// Moves the rows of such a crop over an area, four after four.
+fn move_fours(picture: &Painted, oriented: Oriented, frame: &mut [u8], band: Band, area: Area)
+    requires crop { LiesWithin oriented.crop picture.now.width picture.now.height }
+    requires orient { oriented.orient ≤ 7 }
+    requires side { is_sideways oriented.orient ≡ true }
+    requires solid { IsSolid picture.now }
+    requires down { area.top ≤ area.bottom }
+    requires columns { (area.right - area.left) % 4 ≡ 0 }
+    requires rows { (area.bottom - area.top) % 4 ≡ 0 }
+    requires inside { (x y : ℕ) → is_in_area area x y ≡ true → covers (box_of oriented.crop oriented.orient oriented.place) (pos x) (pos y) ≡ true }
+    requires within { IsInBand band area }
+    requires room { HasRows band frame.old }
+    ensures { (opaque : Bool) (below : ℕ → ℕ → RgbaValue → RgbaValue) → Paints band.width band.top (is_in_area area) (λ x y under.
+        painted (below x y under) (source_of opaque (pixel_shown picture.now oriented.crop oriented.orient oriented.place (pos x) (pos y))) 255) frame.old frame.new }
+{
+    if area.left >= area.right {
+        return;
+    }
+    let mut top = area.top;
+    while top < area.bottom {
+        let bottom = top + 4;
+        let rows = Area {
+            top,
+            bottom,
+            ..area
+        };
+        move_four_rows(picture, oriented, frame, band, rows);
+        top = bottom;
+    }
+}
+
+/// Moves an oriented crop of a solid picture over an area, which may have no points, row by row.
+fn move_rest(picture: &Painted, oriented: Oriented, frame: &mut [u8], band: Band, area: Area)
+    requires crop { LiesWithin oriented.crop picture.now.width picture.now.height }
+    requires orient { oriented.orient ≤ 7 }
+    requires solid { IsSolid picture.now }
+    requires inside { (x y : ℕ) → is_in_area area x y ≡ true → covers (box_of oriented.crop oriented.orient oriented.place) (pos x) (pos y) ≡ true }
+    requires within { IsInBand band area }
+    requires room { HasRows band frame.old }
+    ensures { (opaque : Bool) (below : ℕ → ℕ → RgbaValue → RgbaValue) → Paints band.width band.top (is_in_area area) (λ x y under.
+        painted (below x y under) (source_of opaque (pixel_shown picture.now oriented.crop oriented.orient oriented.place (pos x) (pos y))) 255) frame.old frame.new }
+{
+    if area.left >= area.right || area.top >= area.bottom {
+        return;
+    }
+    move_oriented_rows(picture, oriented, frame, band, area);
+}
+
+/// Moves a crop that stands on its side over an area: by fours, then the columns and the rows that are
+/// left.
+fn move_sideways(picture: &Painted, oriented: Oriented, frame: &mut [u8], band: Band, area: Area)
+    requires crop { LiesWithin oriented.crop picture.now.width picture.now.height }
+    requires orient { oriented.orient ≤ 7 }
+    requires side { is_sideways oriented.orient ≡ true }
+    requires solid { IsSolid picture.now }
+    requires across { area.left < area.right }
+    requires down { area.top < area.bottom }
+    requires inside { (x y : ℕ) → is_in_area area x y ≡ true → covers (box_of oriented.crop oriented.orient oriented.place) (pos x) (pos y) ≡ true }
+    requires within { IsInBand band area }
+    requires room { HasRows band frame.old }
+    ensures { (opaque : Bool) (below : ℕ → ℕ → RgbaValue → RgbaValue) → Paints band.width band.top (is_in_area area) (λ x y under.
+        painted (below x y under) (source_of opaque (pixel_shown picture.now oriented.crop oriented.orient oriented.place (pos x) (pos y))) 255) frame.old frame.new }
+{
+    let right = area.right - (area.right - area.left) % 4;
+    let bottom = area.bottom - (area.bottom - area.top) % 4;
+    let fours = Area {
+        right,
+        bottom,
+        ..area
+    };
+    let beside = Area {
+        left: right,
+        bottom,
+        ..area
+    };
+    let below = Area {
+        top: bottom,
+        ..area
+    };
+    move_fours(picture, oriented, frame, band, fours);
+    move_rest(picture, oriented, frame, band, beside);
+    move_rest(picture, oriented, frame, band, below);
+}
+
+/// Moves an oriented crop of a solid picture over an area: by fours where it stands on its side, else row
+/// by row.
+fn move_block(picture: &Painted, oriented: Oriented, frame: &mut [u8], band: Band, area: Area)
+    requires crop { LiesWithin oriented.crop picture.now.width picture.now.height }
+    requires orient { oriented.orient ≤ 7 }
+    requires solid { IsSolid picture.now }
+    requires across { area.left < area.right }
+    requires down { area.top < area.bottom }
+    requires inside { (x y : ℕ) → is_in_area area x y ≡ true → covers (box_of oriented.crop oriented.orient oriented.place) (pos x) (pos y) ≡ true }
+    requires within { IsInBand band area }
+    requires room { HasRows band frame.old }
+    ensures { (opaque : Bool) (below : ℕ → ℕ → RgbaValue → RgbaValue) → Paints band.width band.top (is_in_area area) (λ x y under.
+        painted (below x y under) (source_of opaque (pixel_shown picture.now oriented.crop oriented.orient oriented.place (pos x) (pos y))) 255) frame.old frame.new }
+{
+    if is_sideways(oriented.orient) {
+        move_sideways(picture, oriented, frame, band, area);
+        return;
+    }
+    move_oriented_rows(picture, oriented, frame, band, area);
+}
+
 /// Moves an oriented crop of a solid picture over an area that its box has, some columns after others.
 pub fn move_oriented(
     picture: &Painted,
@@ -88,7 +232,7 @@ pub fn move_oriented(
     let mut left = area.left;
     while left < area.right {
         let block = columns_from(area, left, columns);
-        move_oriented_rows(picture, oriented, frame, band, block);
+        move_block(picture, oriented, frame, band, block);
         left = block.right;
     }
 }

@@ -12,15 +12,15 @@ use crate::beside::compose_bands;
 use crate::one::compose_band;
 use crate::pixels::Pixels;
 use crate::seen::compose_band_seen;
-use crate::share::{Share, points_in};
+use crate::share::{Share, painted_at_most, points_in};
 use sf_base::NoMemory;
 use sf_damage::sf_region::Region;
 use sf_damage::sf_view::View;
 use std::thread::Threads;
 
-/// How many points of layers are painted in a part if each layer shows in all of it.
+/// At most so many points of layers are painted in a part.
 fn work_of(view: &View, part: &Region) -> u64 {
-    points_in(part, all_rows(view)).saturating_mul(view.drawn.len() as u64)
+    painted_at_most(view, points_in(part, all_rows(view)))
 }
 
 /// How many are painted if of each layer only so much shows. One worker need not know.
@@ -76,8 +76,8 @@ pub fn compose<R: Threads + Sync, C: Pixels + Sync>(
     Ok(())
 }
 
-/// Composes a view into a part of a frame as `compose` does, with the same bytes, and paints of each
-/// layer only what shows of it, as `compose_seen` does.
+/// Composes a view into a part of a frame, with the same bytes as `compose`. Told what shows of each
+/// layer, it leaves out the rest to save time; its contract speaks of the bytes alone.
 pub fn compose_seen_by<R: Threads + Sync, C: Pixels + Sync>(
     rt: &R,
     workers: u32,

@@ -4,6 +4,7 @@ ghost use Rattle.std.specs.Prelude.{◌≡◌, ◌<◌, ◌≤◌};
 use crate::area::{cut, points_of};
 use crate::band::{Band, area_of};
 use sf_damage::sf_region::Region;
+use sf_damage::sf_view::View;
 
 // To begin a thread takes about as long as to paint so many points of layers.
 const START: u64 = 262_144;
@@ -31,6 +32,17 @@ fn worth(workers: u32, work: u64) -> u32
         threads += 1;
     }
     threads
+}
+
+/// At most so many points of layers are painted where so many points of a view are: of each layer no
+/// more than its clip has.
+pub fn painted_at_most(view: &View, points: u64) -> u64 {
+    let mut painted = 0u64;
+    for drawn in view.drawn.as_slice() {
+        let clip = u64::from(drawn.clip.width).saturating_mul(u64::from(drawn.clip.height));
+        painted = painted.saturating_add(clip.min(points));
+    }
+    painted
 }
 
 /// How many points of a part a band has.

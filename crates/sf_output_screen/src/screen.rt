@@ -13,7 +13,7 @@ ghost use Rattle.sf_output_screen.specs.Screens.{IsSameSize, begin_of, output_of
 use crate::engine::Engine;
 use byteorder::{BigEndian, ByteOrder};
 use sf_base::{NoMemory, Rect};
-use sf_compose::{Pixels, Region, View, compose, compose_seen_by, dirty, visible};
+use sf_compose::{Pixels, Region, View, compose, compose_seen_by, dirty, painted_at_most, visible};
 use sf_output::Output;
 use std::alloc::Global;
 use std::marker::Model;
@@ -251,7 +251,6 @@ impl Screen {
 
     /// At most so many points of layers are painted to show a view, where memory suffices to tell.
     pub fn work(&self, view: &View) -> u64 {
-        let layers = view.drawn.len() as u64;
         let points = match &self.view {
             Some(old) if is_composed_over(old, view) => match dirty(self.alloc, old, view) {
                 Ok(part) => points_of(&part),
@@ -259,7 +258,7 @@ impl Screen {
             },
             _ => u64::from(view.width).saturating_mul(u64::from(view.height)),
         };
-        points.saturating_mul(layers)
+        painted_at_most(view, points)
     }
 
     /// Puts the numbers of this output, in the vsync of this number, in front of the frame of the view

@@ -1,4 +1,5 @@
 pub mod ByteWords
+pub mod ColumnLemmas
 pub mod EachLane
 pub mod PickLemmas
 pub mod PixelLemmas

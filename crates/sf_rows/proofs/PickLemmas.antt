@@ -1,5 +1,5 @@
 -- The number of a picked pixel as the machine computes it.
-use Rattle.std.proofs.Common.{arith, ◌≡◌, ℕ, ◌+◌, ◌-◌, ◌*◌, ◌/◌, ◌%◌, ◌<◌, ◌≤◌, ◌^◌, ◌∙◌, pos, neg_ℤ, ap, refl, subst, ⊎_elim, List, length, slice_index, ◌+ℤ◌, ◌*ℤ◌, ◌≤ℤ◌, ◌<ℤ◌, to_z, of_z, w32, w64, ℤ}
+use Rattle.std.proofs.Common.{arith, ◌≡◌, ℕ, ◌+◌, ◌-◌, ◌*◌, ◌/◌, ◌%◌, ◌<◌, ◌≤◌, ◌^◌, ◌∙◌, pos, neg_ℤ, ap, refl, subst, sym, ⊎_elim, List, length, slice_index, ◌+ℤ◌, ◌*ℤ◌, ◌≤ℤ◌, ◌<ℤ◌, to_z, of_z, w32, w64, ℤ}
 use lib.Dec.{T}
 use lib.IntN.{negsuc, negsuc-*ℤ-pos, nat_abs}
 use lib.Signed.{non_neg}
@@ -43,6 +43,21 @@ pixel_room row (negsuc m) whole has = absurd (omega (arith, ints, has.low))
 pub number_fits : (row : List ℕ) (z : ℤ) → length row < 2 ^ 63 → HasPixel row z → T (non_neg z) × Fits w64 (nat_abs z)
 number_fits row (pos m) room has = (tt, search (arith, ints, has.high, room))
 number_fits row (negsuc m) room has = absurd (omega (arith, ints, has.low))
+
+-- it is not below zero
+pub number_whole : (row : List ℕ) (z : ℤ) → HasPixel row z → pos (nat_abs z) ≡ z
+number_whole row (pos m) has = refl
+number_whole row (negsuc m) has = absurd (omega (arith, ints, has.low))
+
+-- two numbers of one pixel
+pub same_number : (n m : ℕ) (z : ℤ) → pos n ≡ z → pos m ≡ z → n ≡ m
+same_number n m z e f = cc
+
+-- the bytes of a pixel by its number
+pub number_room : (row : List ℕ) (n : ℕ) (z : ℤ) → length row % 4 ≡ 0 → pos n ≡ z → HasPixel row z → 4 * (n + 1) ≤ length row
+number_room row n z whole is has =
+    let here : HasPixel row (pos n) = subst (HasPixel row) (sym is) has in
+    pixel_room row (pos n) whole here
 
 -- pixels that follow one another
 

@@ -9,7 +9,7 @@ use Rattle.sf_rows.specs.inner.Channels.{alpha_place, row_channel, opaque_source
 use Rattle.sf_rows.specs.Pixels.{opaque_pixel, PaintedBelow}
 
 -- the pixel of a row of which each channel is known
-pixel_by : (new : List ℕ) (k : ℕ) (p : Rgba) → slice_index new (4 * k) ≡ p.r → slice_index new (4 * k + 1) ≡ p.g
+pub pixel_by : (new : List ℕ) (k : ℕ) (p : Rgba) → slice_index new (4 * k) ≡ p.r → slice_index new (4 * k + 1) ≡ p.g
     → slice_index new (4 * k + 2) ≡ p.b → slice_index new (4 * k + 3) ≡ p.a → pixel_in new k ≡ p
 pixel_by new k p r g b a = rw (r, g, b, a) refl
 

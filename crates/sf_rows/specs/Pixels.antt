@@ -1,5 +1,6 @@
 -- Rows of pixels, four bytes to a pixel: what is painted over them, and what is picked from them.
-use Rattle.std.specs.Prelude.{◌≡◌, ℕ, ◌<◌, ◌≤◌, ℤ, pos, ◌+ℤ◌, ◌*ℤ◌, ◌≤ℤ◌, ◌<ℤ◌, List, length}
+use Rattle.std.specs.Prelude.{◌≡◌, ℕ, ◌+◌, ◌-◌, ◌*◌, ◌<◌, ◌≤◌, Bool, if◌then◌else◌, List, length}
+use Rattle.std.specs.Prelude.{ℤ, pos, ◌+ℤ◌, ◌*ℤ◌, ◌≤ℤ◌, ◌<ℤ◌}
 use Rattle.sf_base.specs.Bytes.{pixel_in}
 use Rattle.sf_base.specs.declared.pixel.Rgba.{Rgba}
 
@@ -25,3 +26,18 @@ pub record HasPixel (row : List ℕ) (number : ℤ) : Type 0 where
 -- each pixel before a number is the one that the steps lead to
 pub record PickedBelow (source : List ℕ) (first : ℕ) (step : ℤ) (at : ℕ) (new : List ℕ) : Type 0 where
   pub each : (k j : ℕ) → k < at → pos j ≡ picked first step k → pixel_in new k ≡ pixel_in source j
+
+-- the number of the pixel that a row of four shows so many columns further right than a column: the rows show pixels that
+-- stand beside one another, on or back
+abbrev pub column_pixel : ℕ → ℤ → Bool → ℕ → ℕ → ℕ → ℤ
+column_pixel first step back column row k = picked (first + (if back then 3 - row else row)) step (column + k)
+
+-- a pixel is in none of four rows of so many pixels, each of which begins so much further than the one before it
+abbrev pub LiesBeside : ℕ → ℕ → ℕ → ℕ → Type 0
+LiesBeside start apart count i = (row k : ℕ) → row < 4 → k < count → i ≡ start + row * apart + k → ⊥
+
+-- each pixel of four such rows is the one of a source that a function numbers, and no other changed
+pub record PicksColumns (start apart : ℕ) (source : List ℕ) (number : ℕ → ℕ → ℤ) (count : ℕ) (old new : List ℕ) : Type 0 where
+  pub size : length new ≡ length old
+  pub each : (row k j : ℕ) → row < 4 → k < count → pos j ≡ number row k → pixel_in new (start + row * apart + k) ≡ pixel_in source j
+  pub rest : (i : ℕ) → LiesBeside start apart count i → pixel_in new i ≡ pixel_in old i

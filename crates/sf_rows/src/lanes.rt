@@ -2,6 +2,7 @@
 ghost use Rattle.std.specs.Prelude.{◌≡◌, ℕ, ◌+◌, ◌-◌, ◌*◌, ◌/◌, ◌<◌, ◌≤◌, length, List, slice_index, IsTrue};
 ghost use Rattle.std.specs.Simd.Lanes.{zip2, Each1};
 ghost use Rattle.sf_base.specs.Blend.{product};
+ghost use Rattle.sf_base.specs.Bytes.{pixel_in};
 ghost use Rattle.sf_rows.specs.inner.Channels.{capped_sum, mix, row_channel, alpha_place};
 ghost use Rattle.sf_rows.specs.inner.Channels.{opaque_source, opaque_channel, colour_part};
 
@@ -183,4 +184,41 @@ pub fn sixteen_back(pixels: u8x64) -> u8x64
     ensures len { length result ≡ 64 }
 {
     u32x16::from_le_bytes(pixels).reverse().to_le_bytes()
+}
+
+/// The first two pixels of two vectors: the first of both, and the second of both.
+#[inline(always)]
+pub fn first_pairs(a: u8x16, b: u8x16) -> u8x16
+    ensures left { (r : ℕ) → r < 2 → pixel_in result (2 * r) ≡ pixel_in a r }
+    ensures right { (r : ℕ) → r < 2 → pixel_in result (2 * r + 1) ≡ pixel_in b r }
+{
+    a.shuffle(b, [0, 1, 2, 3, 16, 17, 18, 19, 4, 5, 6, 7, 20, 21, 22, 23])
+}
+
+/// The last two pixels of two vectors: the third of both, and the fourth of both.
+#[inline(always)]
+pub fn last_pairs(a: u8x16, b: u8x16) -> u8x16
+    ensures left { (r : ℕ) → r < 2 → pixel_in result (2 * r) ≡ pixel_in a (2 + r) }
+    ensures right { (r : ℕ) → r < 2 → pixel_in result (2 * r + 1) ≡ pixel_in b (2 + r) }
+{
+    a.shuffle(
+        b,
+        [8, 9, 10, 11, 24, 25, 26, 27, 12, 13, 14, 15, 28, 29, 30, 31],
+    )
+}
+
+/// The first two of four pixels.
+#[inline(always)]
+pub fn first_half(a: u8x16) -> u8x8
+    ensures { (j : ℕ) → j < 2 → pixel_in result j ≡ pixel_in a j }
+{
+    a.swizzle([0, 1, 2, 3, 4, 5, 6, 7])
+}
+
+/// The last two of them.
+#[inline(always)]
+pub fn last_half(a: u8x16) -> u8x8
+    ensures { (j : ℕ) → j < 2 → pixel_in result j ≡ pixel_in a (2 + j) }
+{
+    a.swizzle([8, 9, 10, 11, 12, 13, 14, 15])
 }

@@ -8,6 +8,7 @@
 #![tactic(auto)]
 
 mod colour;
+mod columns;
 mod lanes;
 mod opaque;
 mod pick;
@@ -15,6 +16,7 @@ mod rest;
 mod row;
 
 pub use colour::blend_colour;
+pub use columns::{FourRows, pick_four_rows};
 pub use opaque::blend_row_opaque;
 pub use pick::pick_row;
 pub use row::blend_row;

@@ -77,15 +77,26 @@ fn pick_back(dst: &mut [u8], src: &[u8], first: u32) -> usize
     at / 4
 }
 
-/// The pixel that is so many steps from the first one.
+/// The number of the pixel that is so many steps from the first one.
 #[inline(always)]
 #[tactic(auto, unfolding(crate::specs::Pixels::picked))]
+pub fn number_at(src: &[u8], first: u32, step: i32, k: usize) -> usize
+    requires few { k < 2 ^ 62 }
+    requires inside { HasPixel src.now (picked first step k) }
+    ensures { pos result ≡ picked first step k }
+{
+    let _ = src;
+    let number = i64::from(first) + i64::from(step) * k as i64;
+    number as usize
+}
+
+/// The pixel that is so many steps from the first one.
+#[inline(always)]
 fn picked_pixel(src: &[u8], first: u32, step: i32, k: usize) -> Rgba
     requires whole { length src.now % 4 ≡ 0 }
     requires few { k < 2 ^ 62 }
     requires inside { HasPixel src.now (picked first step k) }
     ensures { (j : ℕ) → pos j ≡ picked first step k → result ≡ pixel_in src.now j }
 {
-    let number = i64::from(first) + i64::from(step) * k as i64;
-    get_pixel(src, number as usize)
+    get_pixel(src, number_at(src, first, step, k))
 }

@@ -10,17 +10,17 @@ loop-left-init c = (
   λ opaque below. Paints-none _ _ _ _ _ (λ a b. box_without_sides c.args.area.left c.args.area.left c.args.area.top c.args.area.bottom a b (omega arith)),
 )
 
-pub move_oriented_rows-requires-clause-inside : goal.move_oriented_rows-requires-clause-inside
-move_oriented_rows-requires-clause-inside c = λ x y t. c.requires.inside x y (block_point c.args.area c.columns_from-block.result x y (omega (arith, c.columns_from-block.ensures.left, c.loop-left.invariant.0)) c.columns_from-block.ensures.right c.columns_from-block.ensures.top c.columns_from-block.ensures.bottom t)
+pub move_block-requires-clause-inside : goal.move_block-requires-clause-inside
+move_block-requires-clause-inside c = λ x y t. c.requires.inside x y (block_point c.args.area c.columns_from-block.result x y (omega (arith, c.columns_from-block.ensures.left, c.loop-left.invariant.0)) c.columns_from-block.ensures.right c.columns_from-block.ensures.top c.columns_from-block.ensures.bottom t)
 
-pub move_oriented_rows-requires-clause-across : goal.move_oriented_rows-requires-clause-across
-move_oriented_rows-requires-clause-across c = omega (arith, c.columns_from-block.ensures.left, c.columns_from-block.ensures.more)
+pub move_block-requires-clause-across : goal.move_block-requires-clause-across
+move_block-requires-clause-across c = omega (arith, c.columns_from-block.ensures.left, c.columns_from-block.ensures.more)
 
-pub move_oriented_rows-requires-clause-down : goal.move_oriented_rows-requires-clause-down
-move_oriented_rows-requires-clause-down c = omega (arith, c.columns_from-block.ensures.top, c.columns_from-block.ensures.bottom, c.requires.down)
+pub move_block-requires-clause-down : goal.move_block-requires-clause-down
+move_block-requires-clause-down c = omega (arith, c.columns_from-block.ensures.top, c.columns_from-block.ensures.bottom, c.requires.down)
 
-pub move_oriented_rows-requires-clause-within : goal.move_oriented_rows-requires-clause-within
-move_oriented_rows-requires-clause-within c = record {
+pub move_block-requires-clause-within : goal.move_block-requires-clause-within
+move_block-requires-clause-within c = record {
   wide = omega (arith, c.columns_from-block.ensures.right, c.requires.within.wide);
   low = omega (arith, c.columns_from-block.ensures.top, c.requires.within.low);
   high = omega (arith, c.columns_from-block.ensures.bottom, c.requires.within.high);
@@ -30,7 +30,7 @@ pub loop-left-preserved : goal.loop-left-preserved
 loop-left-preserved c = (
   omega (arith, c.columns_from-block.ensures.more, c.loop-left.invariant.0),
   c.columns_from-block.ensures.right,
-  λ opaque below. Paints-block _ _ c.args.area c.columns_from-block.result c.loop-left.left _ _ _ _ c.columns_from-block.ensures.left c.columns_from-block.ensures.top c.columns_from-block.ensures.bottom c.loop-left.invariant.0 c.columns_from-block.ensures.more (c.loop-left.invariant.2 opaque below) (c.move_oriented_rows.ensures opaque below),
+  λ opaque below. Paints-block _ _ c.args.area c.columns_from-block.result c.loop-left.left _ _ _ _ c.columns_from-block.ensures.left c.columns_from-block.ensures.top c.columns_from-block.ensures.bottom c.loop-left.invariant.0 c.columns_from-block.ensures.more (c.loop-left.invariant.2 opaque below) (c.move_block.ensures opaque below),
 )
 
 pub returns : goal.returns
