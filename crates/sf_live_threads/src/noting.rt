@@ -38,12 +38,13 @@ impl Noted {
     }
 
     /// What that may bring those that wait for it: a call a free slot, a signal a point, and a signal or
-    /// the end of a turn a turn, which waits for points too.
+    /// the end of a turn a turn, which waits for points too. A call alone is nothing to look at.
     pub(crate) fn effect(self) -> Effect {
         Effect {
             slots: self.calls,
             points: self.signals,
             turns: self.signals || self.ends,
+            looks: self.sends || self.signals || self.ends,
         }
     }
 }

@@ -21,6 +21,7 @@ const OF_VISIT: Effect = Effect {
     slots: true,
     points: false,
     turns: true,
+    looks: true,
 };
 
 /// A look of whoever starts the threads at all that was done up to some news.

@@ -2,6 +2,8 @@
 //! wait for, and the starter until there is something to look at.
 ghost use Rattle.std.specs.Prelude.{◌<◌};
 
+use std::hint::spin_loop;
+use std::sync::atomic::{AtomicU64, Ordering};
 use std::sync::{Condvar, Mutex, Wait};
 
 /// How many threads are watched at most.
@@ -9,6 +11,9 @@ pub const MOST_WATCHED: usize = 64;
 
 /// News that wrap by as much as this are older ones.
 const LEAST_BEHIND: u64 = 1 << 63;
+
+/// How often a thread looks for news before it sleeps, as it does before it sleeps at a lock.
+const LOOKS: u32 = 100;
 
 /// What a thread waits for that is idle.
 #[derive(Clone, Copy)]
@@ -43,6 +48,19 @@ pub struct Effect {
     pub slots: bool,
     pub points: bool,
     pub turns: bool,
+    /// Something that whoever started the threads looks at.
+    pub looks: bool,
+}
+
+impl Effect {
+    /// Whether it brings this.
+    fn has(self, awaited: Awaited) -> bool {
+        match awaited {
+            Awaited::Slot => self.slots,
+            Awaited::Point => self.points,
+            Awaited::Turn => self.turns,
+        }
+    }
 }
 
 /// What the threads tell each other.
@@ -54,7 +72,9 @@ struct State {
     latest: [u64; KINDS],
     /// How many threads are idle, by what they wait for, and know the latest news for it.
     idle: [usize; KINDS],
-    /// Up to which news whoever started the threads has looked.
+    /// The latest news for whoever started the threads.
+    called: u64,
+    /// Up to which news they have looked.
     looked: u64,
     /// How many do no more steps.
     ended: usize,
@@ -71,11 +91,44 @@ impl State {
         let idle = slots.saturating_add(points).saturating_add(turns);
         idle.saturating_add(self.ended) >= many
     }
+
+    /// There are news for the threads that wait for this: none of them counts as idle any more.
+    fn bring(&mut self, awaited: Awaited) {
+        let index = awaited.index();
+        self.latest[index] = self.news;
+        self.idle[index] = 0;
+    }
+
+    /// Something was done. Whether whoever started the threads is to look at it: where a thread could
+    /// not be started they try its steps, so they look at all.
+    fn note(&mut self, effect: Effect) -> bool {
+        self.news = self.news.wrapping_add(1);
+        for awaited in [Awaited::Slot, Awaited::Point, Awaited::Turn] {
+            if effect.has(awaited) {
+                self.bring(awaited);
+            }
+        }
+        let calls = effect.looks || self.has_turned_away;
+        if calls {
+            self.called = self.news;
+        }
+        calls
+    }
 }
 
 /// Whether these news came before the others.
 fn is_before(news: u64, others: u64) -> bool {
     news.wrapping_sub(others) >= LEAST_BEHIND
+}
+
+/// Looks for a while whether news came behind those that were seen.
+fn look_for(latest: &AtomicU64, seen: u64) {
+    for _ in 0..LOOKS {
+        if is_before(seen, latest.load(Ordering::SeqCst)) {
+            return;
+        }
+        spin_loop();
+    }
 }
 
 /// A watch over some threads, each with an index from 0, and over whoever started them.
@@ -89,6 +142,10 @@ pub struct Watch {
     looked_on: Condvar,
     /// For whoever started them: there are news, or all rest.
     called: Condvar,
+    /// The latest news for whoever started them, to look at without the lock.
+    latest_call: AtomicU64,
+    /// The latest news that they have looked at, likewise.
+    latest_look: AtomicU64,
 }
 
 impl Watch {
@@ -100,6 +157,7 @@ impl Watch {
                 news: 1,
                 latest: [1; KINDS],
                 idle: [0; KINDS],
+                called: 1,
                 looked: 0,
                 ended: 0,
                 stop: false,
@@ -109,6 +167,8 @@ impl Watch {
             changed: [Condvar::new(), Condvar::new(), Condvar::new()],
             looked_on: Condvar::new(),
             called: Condvar::new(),
+            latest_call: AtomicU64::new(1),
+            latest_look: AtomicU64::new(0),
         }
     }
 
@@ -122,30 +182,26 @@ impl Watch {
         self.state.lock(rt).stop
     }
 
-    /// There are news for the threads that wait for this: none of them counts as idle any more.
-    fn wake(&self, state: &mut State, awaited: Awaited) {
-        let index = awaited.index();
-        state.latest[index] = state.news;
-        state.idle[index] = 0;
-        self.changed[index].notify_all();
-    }
-
     /// Something was done: it lets those go on that wait for what it may have brought, and whoever
-    /// started the threads look at it. False where all are to stop.
+    /// started the threads look at it, if it has something for them. False where all are to stop. Who
+    /// is woken finds the lock free.
     pub fn tell_done<R: Wait>(&self, rt: &R, effect: Effect) -> bool {
         let mut state = self.state.lock(rt);
-        state.news = state.news.wrapping_add(1);
-        if effect.slots {
-            self.wake(&mut state, Awaited::Slot);
+        let calls = state.note(effect);
+        if calls {
+            self.latest_call.store(state.called, Ordering::SeqCst);
         }
-        if effect.points {
-            self.wake(&mut state, Awaited::Point);
+        let goes_on = !state.stop;
+        drop(state);
+        for awaited in [Awaited::Slot, Awaited::Point, Awaited::Turn] {
+            if effect.has(awaited) {
+                self.changed[awaited.index()].notify_all();
+            }
         }
-        if effect.turns {
-            self.wake(&mut state, Awaited::Turn);
+        if calls {
+            self.called.notify_all();
         }
-        self.called.notify_all();
-        !state.stop
+        goes_on
     }
 
     /// A thread does no more steps.
@@ -184,15 +240,16 @@ impl Watch {
         !state.stop
     }
 
-    /// Whoever started the threads waits for other news than it has seen, the first time than 0. The
-    /// latest, or none where all threads are idle or have ended, or are to stop.
+    /// Whoever started the threads waits for news to look at, later ones than it has seen, the first
+    /// time than 0. The latest, or none where all threads are idle or have ended, or are to stop.
     pub fn next<R: Wait>(&self, rt: &R, seen: u64) -> Option<u64> {
         let many = self.many;
+        look_for(&self.latest_call, seen);
         let state = self.state.lock(rt);
         let state = self.called.wait_while(rt, state, |state| {
-            state.news == seen && !state.stop && !state.rests(many)
+            !is_before(seen, state.called) && !state.stop && !state.rests(many)
         });
-        if state.stop || state.news == seen {
+        if state.stop || !is_before(seen, state.called) {
             return None;
         }
         Some(state.news)
@@ -200,16 +257,21 @@ impl Watch {
 
     /// Whoever started the threads has looked at all that was done up to these news.
     pub fn tell_looked<R: Wait>(&self, rt: &R, news: u64) {
-        self.state.lock(rt).looked = news;
+        let mut state = self.state.lock(rt);
+        state.looked = news;
+        self.latest_look.store(news, Ordering::SeqCst);
+        drop(state);
         self.looked_on.notify_all();
     }
 
     /// A thread, which isn't idle, sleeps until whoever started it has looked at all that was done so
-    /// far. Where no thread could be started for some index it doesn't: whoever tries the steps of that
-    /// actor may wait meanwhile for what this thread does next. False where it is to stop.
+    /// far for them to look at. Where no thread could be started for some index it doesn't: whoever
+    /// tries the steps of that actor may wait meanwhile for what this thread does next. False where it
+    /// is to stop.
     pub fn wait_for_look<R: Wait>(&self, rt: &R) -> bool {
+        let told = self.state.lock(rt).called;
+        look_for(&self.latest_look, told.wrapping_sub(1));
         let state = self.state.lock(rt);
-        let told = state.news;
         let state = self.looked_on.wait_while(rt, state, |state| {
             is_before(state.looked, told) && !state.stop && !state.has_turned_away
         });

@@ -6,11 +6,18 @@ use std::sync::atomic::{AtomicUsize, Ordering};
 use std::thread::Threads;
 use std::{io, thread};
 
-/// Nothing that a thread waits for.
+/// Nothing that a thread waits for, but something to look at.
 const NOTHING: Effect = Effect {
     slots: false,
     points: false,
     turns: false,
+    looks: true,
+};
+
+/// Nothing that anybody waits for.
+const SILENT: Effect = Effect {
+    looks: false,
+    ..NOTHING
 };
 
 /// What brings only this.
@@ -239,9 +246,10 @@ fn awaited(word: &str) -> Option<Awaited> {
 
 /// What brings only what a word says, if it says anything.
 fn effect(word: &str) -> Effect {
-    match awaited(word) {
-        Some(awaited) => bringing(awaited),
-        None => NOTHING,
+    match (awaited(word), word) {
+        (Some(awaited), _) => bringing(awaited),
+        (None, "silent") => SILENT,
+        (None, _) => NOTHING,
     }
 }
 
@@ -267,6 +275,10 @@ fn answer<R: Print + Threads + Wait + Sync>(rt: &R, watch: &Watch, line: &str) -
             println!(rt; "{line}: told")
         }
         "done" => println!(rt; "{line}: {}", watch.tell_done(rt, effect(first))),
+        "ended" => {
+            watch.tell_ended(rt);
+            println!(rt; "{line}: told")
+        }
         "is-stopped" => println!(rt; "{line}: {}", watch.is_stopped(rt)),
         "wait" => println!(rt; "{line}: {}", watch.wait_for_look(rt)),
         "unseen" => println!(rt; "{line}: {}", goes_on_unseen(rt)),
