@@ -222,10 +222,10 @@ module _ {B : Type 0} (lease : Ghosts ReadLeaseOf SeatView ReadLeaseOf Issued) (
   home_marks = j.closes.marks ∙ j.marks
 
   -- the actors
-  back : All (IsBack scene table locks) ends
+  pub back : All (IsBack scene table locks) ends
   back = all_back scene table locks j.starts ends (subst (All HasNoTrace) (sym j.new) (no_traces j.declared j.stock)) j.new_seats j.came
 
-  took : took_of j.first ≡ all_seats
+  pub took : took_of j.first ≡ all_seats
   took = meets_took j.attended all_seats j.first j.met ∙ ap (λ (list : List (Seats B)). list ++ all_seats) j.none_taken
 
   abbrev GoOn : Moment B → Type 0
@@ -266,7 +266,7 @@ module _ {B : Type 0} (lease : Ghosts ReadLeaseOf SeatView ReadLeaseOf Issued) (
   pub first_by : last.seats.by ≡ 0
   first_by = ap by_of (sym j.at_last) ∙ sym (meets_number j.attended all_seats j.first j.met) ∙ j.is_first.number
 
-  arrivals_go : GoesOnWithout 0 (unstamped last.seats.arrivals.seen) desk.arrivals
+  pub arrivals_go : GoesOnWithout 0 (unstamped last.seats.arrivals.seen) desk.arrivals
   arrivals_go =
       subst (λ (calls : ArrivalCalls). GoesOnWithout 0 (unstamped last.seats.arrivals.seen) calls) (sym j.closes.arrived)
       (goes_unstamped 0 last.seats.arrivals.seen j.first.seats.arrivals.seen
@@ -289,11 +289,11 @@ module _ {B : Type 0} (lease : Ghosts ReadLeaseOf SeatView ReadLeaseOf Issued) (
         (subst (λ (seats : Seats B). CountsRise seats.turns.seen j.first.seats.turns.seen) j.at_last (meets_counts j.attended all_seats j.first j.met));
   }
 
-  only : OnlyFirstTakes desk.arrivals
+  pub only : OnlyFirstTakes desk.arrivals
   only = subst OnlyFirstTakes (sym j.closes.arrived)
       (only_first table locks j.first j.is_first j.ordered (λ by some apart. ap (calls_by by) (sym j.closes.arrived) ∙ j.closes.strangers by (stranger by some apart)))
 
-  none_last : j.begins.handler.last ≡ 0
+  pub none_last : j.begins.handler.last ≡ 0
   none_last = ap (λ (h : HandlerOf ReadLeaseOf). h.last) j.handler
 
   pub none_pending : j.begins.handler.pending ≡ []
@@ -307,7 +307,7 @@ module _ {B : Type 0} (lease : Ghosts ReadLeaseOf SeatView ReadLeaseOf Issued) (
       (log_takes lease table locks period desk.arrivals only j.begins last j.log none_last j.nothing.arrivals first_by arrivals_go.begins) arrivals_go
 
   -- who called and sent
-  uncalled : (queue : ℕ) → (view_of j.begins.seats).calls queue ≡ []
+  pub uncalled : (queue : ℕ) → (view_of j.begins.seats).calls queue ≡ []
   uncalled queue = knows_none j.begins.seats.queues.items j.nothing.queues queue
 
   pub callers : (queue : ℕ) → All (IsCallBy ofs) (joined.calls queue)

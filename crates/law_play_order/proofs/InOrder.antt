@@ -1,26 +1,24 @@
 -- A log that tells of a state is an order of what the state's records show.
-use Rattle.std.proofs.Common.{◌≡◌, ◌≢◌, ℕ, suc, zero, pred, ◌+◌, ◌<◌, ◌≤◌, Bool, true, false, ◌==◌, List, [], ◌∷◌, ◌++◌, length, map, reverse, Option, Some, None, slice_get, refl, sym, ap, subst, ◌∙◌, inl, inr, arith, Contains}
+use Rattle.std.proofs.Common.{◌≡◌, ℕ, suc, zero, pred, ◌+◌, ◌<◌, ◌≤◌, Bool, true, List, ◌∷◌, length, map, reverse, Some, slice_get, refl, sym, ap, subst, ◌∙◌, inl, inr, arith, Contains}
 use Rattle.std.proofs.lemmas.Bool.{cases_lt}
 use Rattle.std.proofs.lemmas.List.{length-map}
 use Rattle.std.proofs.lemmas.Option.{slice_get-map, slice_get_within}
-use Rattle.std.specs.Prelude.{◌⊎◌, is_some, option_map}
+use Rattle.std.specs.Prelude.{option_map}
 use Rattle.law_order.specs.Order.{ArrivalAt, CallAt, InOneOrder, IsArrival, IsCall, IsLaterStep, IsLaterThere}
 use Rattle.law_played.specs.sf_actor.Names.{FrameOf}
-use Rattle.law_played.specs.sf_actor.sf_slots.declared.calls.Entry.{Entry}
 use Rattle.law_played.specs.sf_record.declared.event.VsyncRecords.{VsyncRecords}
 use Rattle.law_played.specs.sf_record.declared.record.ArrivalEntry.{ArrivalEntry}
 use Rattle.law_played.specs.sf_record.declared.record.CommitRecord.{CommitRecord}
 use Rattle.law_played.specs.sf_record.declared.record.HistoryEntry.{HistoryEntry}
 use Rattle.law_played.specs.sf_record.declared.record.QueueHistory.{QueueHistory}
 use Rattle.law_played.specs.sf_script_scene.Scene.{SceneValue}
-use Rattle.law_played.specs.sf_script_scene.declared.declarations.QueueDecl.{QueueDecl}
 use Rattle.law_played.specs.sf_token.Pending.{Arrival}
 use Rattle.law_played.specs.Arrivals.{entry_of}
 use Rattle.law_played.specs.Histories.{entry_shown, history_shown, rising_queues}
 use Rattle.law_played.specs.RunStates.{RunState}
-use Rattle.law_play_order.proofs.Logs.{Arrived, Called, Follows, IsEnd, IsNumber, Moment, Vsynced, arrival_in, count, is_arrival, is_on, is_vsync, items, number_of, on, owner, step_of}
+use Rattle.law_play_order.proofs.Logs.{Arrived, Follows, IsEnd, IsNumber, Moment, Vsynced, arrival_in, count, is_arrival, is_on, is_vsync, items, number_of, on, owner, step_of}
 use Rattle.law_play_order.proofs.Found.{Found, end_fewer, end_shorter, find_at, head_is, member, number_at, timely_at}
-use Rattle.law_play_order.proofs.OrderOfTransitions.{IsArrivalIn, IsCallOn, IsCommitted, IsVsyncOf, IsWithin, Made, Tells, arrival_is, before, by_places, by_steps, call_on, end_within, happened, inside, item_at, items_long, mapped, no_call, number_here, number_low, outside, some_is, total, total_rises, vsync_is}
+use Rattle.law_play_order.proofs.OrderOfTransitions.{IsWithin, Tells, arrival_is, before, by_places, by_steps, call_on, end_within, happened, inside, item_at, items_long, mapped, no_call, number_here, number_low, outside, some_is, total, total_rises, vsync_is}
 
 -- a call that the records show, in the log
 record CallIn (log : List Moment) (c : CallAt) : Type 0 where

@@ -4,3 +4,6 @@ pub mod OrderOfTransitions
 pub mod InOrder
 pub mod Turns
 pub mod PlayOrder
+pub mod Signals
+pub mod NoneLeft
+pub mod ShownPlays

@@ -1,5 +1,5 @@
 -- What happened in a run, the newest first: calls, arrivals and vsyncs, each of an owner and a step of it.
-use Rattle.std.proofs.Common.{◌≡◌, ℕ, suc, zero, ◌+◌, ◌<◌, ◌≤◌, Bool, true, false, ◌==◌, ◌&&◌, List, [], ◌∷◌, ◌++◌, length, refl, sym, ap, subst, ◌∙◌, inl, inr, arith}
+use Rattle.std.proofs.Common.{◌≡◌, ℕ, ◌+◌, ◌<◌, ◌≤◌, Bool, ◌==◌, ◌&&◌, List, [], ◌∷◌, ◌++◌, length}
 use Rattle.std.specs.Prelude.{◌⊎◌, if◌then◌else◌, Option, Some, None, is_some, option_to_list}
 use Rattle.std.specs.List.{AllByRecursion}
 use Rattle.law_played.specs.sf_actor.Names.{FrameOf}

@@ -1,27 +1,23 @@
 -- A log whose moments follow one another is an order of what it tells.
-use Rattle.std.proofs.Common.{◌≡◌, ◌≢◌, ℕ, suc, zero, pred, ◌+◌, ◌-◌, ◌<◌, ◌≤◌, Bool, true, false, ◌==◌, ◌&&◌, List, [], ◌∷◌, ◌++◌, length, get_or, map, reverse, Option, Some, None, slice_get, refl, sym, ap, subst, ◌∙◌, inl, inr, arith, Contains}
-use Rattle.std.proofs.lemmas.Bool.{cases_Bool, cases_lt}
+use Rattle.std.proofs.Common.{◌≡◌, ℕ, suc, zero, ◌+◌, ◌-◌, ◌<◌, ◌≤◌, Bool, true, false, ◌==◌, ◌&&◌, List, [], ◌∷◌, ◌++◌, length, get_or, map, reverse, Option, Some, None, slice_get, refl, sym, ap, subst, ◌∙◌, inl, inr, arith, Contains}
+use Rattle.std.proofs.lemmas.Bool.{cases_lt}
 use Rattle.std.proofs.lemmas.Bool.Decides.{nat_tests}
-use Rattle.std.proofs.lemmas.List.{get_or_append_left, get_or-append_right, length-append, length-map}
-use Rattle.std.proofs.lemmas.Option.{get_or_from_slice_get, slice_get-map, slice_get_read, slice_get_within}
-use Rattle.std.specs.Prelude.{◌⊎◌, if◌then◌else◌, nat_lt, is_some, option_map, option_to_list}
+use Rattle.std.proofs.lemmas.List.{get_or_append_left, get_or-append_right, length-append}
+use Rattle.std.proofs.lemmas.Option.{get_or_from_slice_get, slice_get_read, slice_get_within}
+use Rattle.std.specs.Prelude.{if◌then◌else◌, nat_lt, is_some, option_to_list}
 use Rattle.std.specs.List.{AllByRecursion}
-use Rattle.law_order.specs.Order.{ArrivalAt, CallAt, Happened, InOneOrder, IsArrival, IsCall, IsLaterStep, IsLaterThere}
+use Rattle.law_order.specs.Order.{Happened}
 use Rattle.law_played.specs.sf_actor.Names.{FrameOf}
 use Rattle.law_played.specs.sf_actor.sf_slots.declared.calls.Entry.{Entry}
 use Rattle.law_played.specs.sf_record.declared.event.VsyncRecords.{VsyncRecords}
-use Rattle.law_played.specs.sf_record.declared.record.ArrivalEntry.{ArrivalEntry}
 use Rattle.law_played.specs.sf_record.declared.record.CommitRecord.{CommitRecord}
-use Rattle.law_played.specs.sf_record.declared.record.HistoryEntry.{HistoryEntry}
-use Rattle.law_played.specs.sf_record.declared.record.QueueHistory.{QueueHistory}
 use Rattle.law_played.specs.sf_script_scene.Scene.{SceneValue}
-use Rattle.law_played.specs.sf_script_scene.declared.declarations.QueueDecl.{QueueDecl}
 use Rattle.law_played.specs.sf_token.Pending.{Arrival}
 use Rattle.law_played.specs.Arrivals.{entry_of}
-use Rattle.law_played.specs.Histories.{entry_shown, history_shown, rising_queues}
+use Rattle.law_played.specs.Histories.{history_shown, rising_queues}
 use Rattle.law_played.specs.RunStates.{RunState}
-use Rattle.law_play_order.proofs.Logs.{AreNumbered, Arrived, Called, Follows, IsEnd, IsNumber, IsTimely, Moment, Vsynced, arrival_in, bit, count, is_arrival, is_on, is_vsync, items, number_of, on, owner, step_of, vsync_of}
-use Rattle.law_play_order.proofs.Found.{Found, compare, end_fewer, end_shorter, find_at, head_is, member, number_at, tail_is, timely_at}
+use Rattle.law_play_order.proofs.Logs.{AreNumbered, Arrived, Called, Follows, IsEnd, IsTimely, Moment, Vsynced, arrival_in, bit, count, is_arrival, is_on, is_vsync, items, number_of, on, owner, step_of}
+use Rattle.law_play_order.proofs.Found.{Found, compare, end_fewer, end_shorter, find_at, head_is, member, tail_is, timely_at}
 
 -- a call of the compositor is one of a vsync that was
 abbrev pub IsWithin : ℕ → Moment → Type 0

@@ -1,22 +1,20 @@
 -- Each turn of a play, and so a whole play, has a log.
-use Rattle.std.proofs.Common.{◌≡◌, ℕ, suc, zero, ◌+◌, ◌*◌, ◌<◌, ◌≤◌, Bool, true, false, ◌==◌, List, [], ◌∷◌, ◌++◌, length, map, reverse, Option, Some, None, refl, sym, ap, subst, ◌∙◌, inl, inr, arith, Contains}
-use Rattle.std.proofs.lemmas.Bool.{cases_Bool}
+use Rattle.std.proofs.Common.{◌≡◌, ℕ, suc, zero, ◌+◌, ◌*◌, ◌≤◌, Bool, true, false, ◌==◌, List, [], ◌∷◌, ◌++◌, length, map, reverse, Option, Some, None, refl, sym, ap, subst, ◌∙◌, inl, inr, arith, Contains}
 use Rattle.std.proofs.lemmas.Bool.Decides.{nat_tests}
 use Rattle.std.proofs.lemmas.List.{append-nil, length-append}
 use Rattle.std.proofs.lemmas.List.Concat.{flat_map-append}
-use Rattle.std.proofs.lemmas.List.Elements.{All-from_recursion, Contains-append_cases, recursion_from_All}
-use Rattle.std.specs.Prelude.{All, ◌⊎◌, if◌then◌else◌, filter, find}
+use Rattle.std.proofs.lemmas.List.Elements.{All-from_recursion, Contains-append_cases}
+use Rattle.std.specs.Prelude.{All, ◌⊎◌, if◌then◌else◌, find}
 use Rattle.std.specs.List.{AllByRecursion, flat_map}
 use Rattle.law_order.specs.Order.{InOneOrder}
-use Rattle.law_played.specs.sf_commit.Rounds.{Decided, Leads, Round, committed, facts_of}
+use Rattle.law_played.specs.sf_commit.Rounds.{Leads, Round, committed, facts_of}
 use Rattle.law_played.specs.sf_commit.declared.vsync.Commit.{Commit}
 use Rattle.law_played.specs.sf_actor.Asking.{Asked}
 use Rattle.law_played.specs.sf_actor.Makers.{Run}
 use Rattle.law_played.specs.sf_actor.Names.{FrameOf}
 use Rattle.law_played.specs.sf_actor.Scripts.{picture_at}
-use Rattle.law_played.specs.sf_actor.Traces.{DoneAt, SentStep, made_at, sent_at}
+use Rattle.law_played.specs.sf_actor.Traces.{SentStep, made_at, sent_at}
 use Rattle.law_played.specs.sf_actor.declared.done.Done.{Done}
-use Rattle.law_played.specs.sf_actor.sf_slots.declared.calls.Entry.{Entry}
 use Rattle.law_played.specs.sf_record.declared.event.Event.{Event}
 use Rattle.law_played.specs.sf_record.declared.event.Event.TheVariants as event
 use Rattle.law_played.specs.sf_record.declared.event.VsyncRecords.{VsyncRecords}
@@ -27,7 +25,7 @@ use Rattle.law_played.specs.sf_script_scene.declared.step.Step.{Step}
 use Rattle.law_played.specs.sf_token.Pending.{Arrival}
 use Rattle.law_played.specs.Arrivals.{entry_of}
 use Rattle.law_played.specs.Histories.{history_shown, rising_queues}
-use Rattle.law_played.specs.Plays.{Comes, GoesOnWith, IsPlay, Playing, TakesTransition, first_playing, goes, stays, with_round}
+use Rattle.law_played.specs.Plays.{Comes, GoesOnWith, IsBegun, IsPlay, Playing, TakesTransition, first_playing, goes, stays}
 use Rattle.law_played.specs.Vsyncs.{vsync_in, vsyncs_in}
 use Rattle.sf_commit.proofs.DecideLemmas.{all_left}
 use Rattle.law_played.proofs.OrderLemmas.{found_has}
@@ -43,11 +41,11 @@ use Rattle.law_played.specs.Progress.{released_by}
 use Rattle.law_played.specs.Runs.{final_values, written_in}
 use Rattle.law_played.specs.Stuck.{holdings_at_end, next_step}
 use Rattle.law_played.specs.Vsyncs.{commits_in}
-use Rattle.law_played.specs.RunStates.{DecidesNow, release_asked, report_of, reports_if, reports_of, round_now, Transition, VsyncTransition, RunState, actor_transition, after_step, after_vsync, arrival_by, asked_by, at_now, done_now, first_state, idle, script_transition, step_transition, waits_now, with_calls, with_list}
-use Rattle.law_play_order.proofs.Logs.{AreNumbered, Arrived, Called, Follows, IsEnd, IsTimely, Moment, Vsynced, arrival_in, count, is_arrival, is_vsync, items, on, owner, step_of}
+use Rattle.law_played.specs.RunStates.{DecidesNow, release_asked, report_of, reports_if, reports_of, round_now, Transition, VsyncTransition, RunState, actor_transition, after_step, after_vsync, arrival_by, asked_by, at_now, done_now, idle, script_transition, step_transition, waits_now, with_calls, with_list}
+use Rattle.law_play_order.proofs.Logs.{Arrived, Called, Follows, IsEnd, Moment, Vsynced, arrival_in, count, is_vsync, items, on, owner, step_of}
 use Rattle.law_play_order.proofs.InOrder.{in_order}
-use Rattle.law_play_order.proofs.OrderOfTransitions.{IsCommitted, IsWithin, Tells, happened, items_long, some_is}
-use Rattle.law_play_order.proofs.Turns.{Adds, all_added, others_of, still_committed, wider, IsDone, IsOlder, Keeps, SendsOne, answered_next, calls_added, calls_told, done_after, log_with, older_now, progress, same_trace, sends}
+use Rattle.law_play_order.proofs.OrderOfTransitions.{IsCommitted, happened, items_long, some_is}
+use Rattle.law_play_order.proofs.Turns.{Adds, all_added, others_of, still_committed, wider, IsOlder, Keeps, SendsOne, answered_next, calls_added, calls_told, done_after, log_with, older_now, progress, same_trace, sends}
 
 -- a turn leads to a state that has a log, and shows the vsyncs that this state has more
 pub record GoesOn (state : RunState) (turn : Transition) : Type 0 where
@@ -408,6 +406,10 @@ goes_on scene playing next [] (Some before) has on = subst HasLog (sym on.1) (re
 comes : (scene : SceneValue) (playing end : Playing) → HasLog playing → Comes scene playing end → HasLog end
 comes scene playing _ has stays = has
 comes scene playing end has (goes {next = next} step later) = comes scene next end (goes_on scene playing next playing.left playing.before has step) later
+
+-- what a begun play showed are the reports of its state
+pub reports_along : (scene : SceneValue) (playing : Playing) → IsBegun scene playing → vsyncs_in playing.events ≡ playing.state.reports
+reports_along scene playing begun = (comes scene (first_playing scene) playing (begun_log scene) begun).reports
 
 pub play_in_order : (scene : SceneValue) (events : List Event) (state : RunState) → IsPlay scene events state
     → InOneOrder true (record { histories = map (history_shown state.run) (rising_queues scene); arrived = map entry_of state.arrivals; vsyncs = vsyncs_in events })

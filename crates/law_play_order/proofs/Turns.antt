@@ -1,34 +1,28 @@
 -- The turns of a play make the log of its state longer.
-use Rattle.std.proofs.Common.{◌≡◌, ℕ, suc, zero, ◌+◌, ◌<◌, ◌≤◌, Bool, true, false, ◌==◌, ◌&&◌, List, [], ◌∷◌, ◌++◌, length, map, reverse, Option, Some, None, refl, sym, ap, subst, ◌∙◌, inl, inr, arith, Contains}
+use Rattle.std.proofs.Common.{◌≡◌, ℕ, suc, zero, ◌+◌, ◌≤◌, Bool, true, false, ◌==◌, List, [], ◌∷◌, ◌++◌, length, reverse, Option, Some, None, refl, sym, ap, subst, ◌∙◌, inl, inr, arith}
 use Rattle.std.proofs.lemmas.Bool.{cases_Bool}
 use Rattle.std.proofs.lemmas.Bool.Decides.{nat_tests}
-use Rattle.std.proofs.lemmas.List.{append-nil, length-append, reverse-append}
-use Rattle.std.proofs.lemmas.List.Elements.{Contains-append_cases, recursion_from_All, All-from_recursion}
-use Rattle.std.specs.Prelude.{◌⊎◌, if◌then◌else◌, is_some, filter, find, option_to_list}
-use Rattle.std.specs.List.{AllByRecursion, flat_map}
-use Rattle.law_played.specs.sf_commit.Rounds.{Decided, Leads, Round, committed, facts_of}
-use Rattle.law_played.specs.sf_commit.declared.vsync.Commit.{Commit}
+use Rattle.std.proofs.lemmas.List.{append-nil, reverse-append}
+use Rattle.std.specs.Prelude.{◌⊎◌, if◌then◌else◌}
+use Rattle.std.specs.List.{AllByRecursion}
 use Rattle.law_played.specs.sf_actor.Asking.{Asked, call_of}
 use Rattle.law_played.specs.sf_actor.Makers.{Run}
 use Rattle.law_played.specs.sf_actor.Names.{FrameOf}
 use Rattle.law_played.specs.sf_actor.Scripts.{picture_at}
 use Rattle.law_played.specs.sf_actor.Steps.{sent_by}
-use Rattle.law_played.specs.sf_actor.Traces.{DoneAt, SentStep, made_at, sent_at, sent_with}
+use Rattle.law_played.specs.sf_actor.Traces.{SentStep, sent_with}
 use Rattle.law_played.specs.sf_actor.declared.done.Answered.{Answered}
 use Rattle.law_played.specs.sf_actor.declared.done.Answered.TheVariants as answered
-use Rattle.law_played.specs.sf_actor.declared.done.Done.{Done}
 use Rattle.law_played.specs.sf_actor.sf_slots.declared.calls.Entry.{Entry}
 use Rattle.law_played.specs.sf_script_scene.Scene.{SceneValue}
 use Rattle.law_played.specs.sf_script_scene.declared.step.ActorScript.{ActorScript}
 use Rattle.law_played.specs.sf_script_scene.declared.step.Step.{Step}
-use Rattle.law_played.specs.sf_token.Pending.{Arrival, is_of}
-use Rattle.law_played.specs.sf_txn.Transactions.{Contents, without_first}
-use Rattle.law_played.specs.Holds.{uncommitted}
+use Rattle.law_played.specs.sf_txn.Transactions.{Contents}
 use Rattle.law_played.specs.Stuck.{holdings_at_end}
 use Rattle.law_played.specs.sf_actor.Points.{detached_fence}
 use Rattle.law_played.specs.sf_actor.Tests.{bad_value}
-use Rattle.law_played.specs.RunStates.{Transition, RunState, actor_transition, after_step, answer_by, answer_tested, arrival_by, asked_by, at_now, done_now, idle, is_open, reply_now, script_transition, step_transition, waits_now, with_call, with_calls, with_list}
-use Rattle.law_play_order.proofs.Logs.{AreNumbered, Arrived, Called, Follows, IsEnd, IsNumber, IsTimely, Moment, Vsynced, arrival_in, count, is_arrival, is_vsync, items, on, owner, step_of}
+use Rattle.law_played.specs.RunStates.{RunState, answer_by, answer_tested, is_open, reply_now, with_call, with_calls}
+use Rattle.law_play_order.proofs.Logs.{AreNumbered, Arrived, Called, Follows, IsEnd, IsTimely, Moment, Vsynced, arrival_in, count, is_vsync, items, on, owner, step_of}
 use Rattle.law_play_order.proofs.OrderOfTransitions.{IsCommitted, IsWithin, Tells}
 
 -- nothing of an owner is of a later step

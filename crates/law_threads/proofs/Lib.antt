@@ -9,10 +9,10 @@ mod QueueCallTries
 mod EventLaws
 mod LedgerViews
 mod TryOutcomes
-mod CallCounts
+pub mod CallCounts
 mod VsyncLift
 mod VsyncRights
-mod DeclaredCallers
+pub mod DeclaredCallers
 mod DelayedCalls
 mod FirstAndLastStates
 mod SentOnTheirWay
@@ -33,12 +33,12 @@ pub mod RightsAtTiedJoin
 mod RightsOfEvents
 mod TimelineLooks
 mod SendLift
-mod CallStamps
+pub mod CallStamps
 mod LedgerAtTiedJoin
 mod CompositorAsCaller
-mod ActorAsCaller
+pub mod ActorAsCaller
 mod CompositorPieces
-mod WalkPieces
+pub mod WalkPieces
 mod WalkBlocks
 mod TryWrites
 pub use Rattle.law_draws.proofs as law_draws_lemmas

@@ -117,7 +117,7 @@ module _ {B : Type 0} (lease : Ghosts ReadLeaseOf SeatView ReadLeaseOf Issued) (
 
   module _ (first : FirstSeats B) where
     module _ (before after : Sitting B) (vsync : IsVsync lease table locks period before after) (by_it : after.seats.by ≡ 0) (stamped : IsStamped lease table locks period first before after vsync) where
-      take_stamp : stamps first (0, length vsync.takes.took.earlier) ≡ vsync.took.last.stamp
+      pub take_stamp : stamps first (0, length vsync.takes.took.earlier) ≡ vsync.took.last.stamp
       take_stamp =
           stamp_newest vsync.took.arrivals.seen first.seats.arrivals.seen _ vsync.takes.took.earlier vsync.takes.took.newest
           (subst (λ pass. Begins pass.seen first.seats.arrivals.seen) vsync.arrivals stamped.arrivals)
@@ -142,11 +142,11 @@ module _ {B : Type 0} (lease : Ghosts ReadLeaseOf SeatView ReadLeaseOf Issued) (
         number_is : (moment found.e).0 ≡ after.number
         number_is = ap (λ (m : Made B). m.call.0) found.without ∙ step
 
-        stamp_high : stamps first (suc queue, length earlier) ≤ after.seats.last.stamp
-        stamp_high = let high = vsync.own.in_order.stamp (moment found.e) there in let same = stamp_is in omega (arith, high, same)
+        pub call_high : stamps first (suc queue, length earlier) ≤ after.seats.last.stamp
+        call_high = let high = vsync.own.in_order.stamp (moment found.e) there in let same = stamp_is in omega (arith, high, same)
 
-        stamp_low : stamps first (0, length vsync.takes.took.earlier) ≤ stamps first (suc queue, length earlier)
-        stamp_low = elim (vsync.later (moment found.e) there) [
+        pub call_low : stamps first (0, length vsync.takes.took.earlier) ≤ stamps first (suc queue, length earlier)
+        call_low = elim (vsync.later (moment found.e) there) [
           | inl was ↦
               let early = vsync.early (moment found.e) was in
               let number = number_is in
@@ -162,8 +162,8 @@ module _ {B : Type 0} (lease : Ghosts ReadLeaseOf SeatView ReadLeaseOf Issued) (
           → AreBetween (stamps first) (stamps first (0, length vsync.takes.took.earlier)) after.seats.last.stamp (back_spots home after.number releases old (view_of after.seats) all)
       backs home [] old all = tt
       backs home (release ∷ releases) old all = (
-        stamp_low release.queue.0 (entry 0 (after.number, call.Release release.lease release.fence) all.1.reply) behind.0 all.1.made.earlier is refl refl,
-        stamp_high release.queue.0 (entry 0 (after.number, call.Release release.lease release.fence) all.1.reply) behind.0 all.1.made.earlier is refl refl,
+        call_low release.queue.0 (entry 0 (after.number, call.Release release.lease release.fence) all.1.reply) behind.0 all.1.made.earlier is refl refl,
+        call_high release.queue.0 (entry 0 (after.number, call.Release release.lease release.fence) all.1.reply) behind.0 all.1.made.earlier is refl refl,
         backs home releases all.0 all.2,
       )
         where

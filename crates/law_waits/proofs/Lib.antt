@@ -1,1 +1,3 @@
 pub mod PassedArrivals
+pub mod LeavingLemmas
+pub mod LeavingVsync

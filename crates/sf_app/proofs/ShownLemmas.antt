@@ -11,11 +11,11 @@ use Rattle.sf_record_sums.specs.sf_record.declared.encode.RunFault.{RunFault}
 use Rattle.sf_record_sums.specs.sf_record.declared.record.Record.{Record}
 use Rattle.sf_record_sums.specs.sf_record.declared.record.Record.TheVariants as rec
 use Rattle.sf_record_sums.specs.sf_record.declared.record.Summary.{Summary}
-use Rattle.sf_live.specs.law_played.Played.{PlayedWhere}
+use Rattle.sf_live.specs.law_play_order.Happening.{HappenedInOrder}
 use Rattle.sf_live.specs.sf_play_write.Runs.{CutRun, WroteRun}
 use Rattle.sf_live.specs.sf_play_write.Writing.{Writes, WritesPart}
 use Rattle.sf_record_sums.specs.Summaries.{summary_of, wrapped}
-use Rattle.sf_app.specs.Shown.{ShowsPart, ShowsPlay, ShowsRun, bytes_shown, records_shown}
+use Rattle.sf_app.specs.Shown.{Means, ShowsPart, ShowsPlay, ShowsRun, bytes_shown, records_shown}
 use Rattle.sf_live.proofs.sf_play_write_lemmas.WritingLemmas.{one_record, part_none}
 
 pub ok_then : {A B : Type 0} (r : Result (Unit {0}) RunFault) → (A → B) → OnOk r A → OnOk r B
@@ -65,19 +65,19 @@ shown_bytes true records a b h = subst (Appends a b) (sym (one_record (rec.Summ 
 shown_bytes false records a b h = h.bytes
 
 -- what was shown of a run shows records that mean what a played run means, in which a sender is told its place or not
-pub record ShowsMeaning (summary tells : Bool) (scene : SceneValue) (a b : Option (List ℕ)) : Type 0 where
+pub record ShowsMeaning (r : Run) (summary tells : Bool) (scene : SceneValue) (a b : Option (List ℕ)) : Type 0 where
   pub records : List Record
-  pub played : PlayedWhere tells scene records
+  pub means : Means r tells scene records
   pub written : Appends a b (bytes_shown summary records)
 
-played_told : (tells : Bool) (scene : SceneValue) (records : List Record) → tells ≡ true → PlayedWhere true scene records → PlayedWhere tells scene records
-played_told tells scene records told played = subst (λ (t : Bool). PlayedWhere t scene records) (sym told) played
+in_order_told : (tells : Bool) (scene : SceneValue) (records : List Record) → tells ≡ true → HappenedInOrder true scene records → HappenedInOrder tells scene records
+in_order_told tells scene records told means = subst (λ (t : Bool). HappenedInOrder t scene records) (sym told) means
 
 pub run_means : (r : Run) (summary tells : Bool) (scene : SceneValue) (a b : Option (List ℕ)) → (is_live r ≡ true → summary ≡ false) → (is_live r ≡ false → tells ≡ true) → ShowsRun r summary tells scene a b
-    → ShowsMeaning summary tells scene a b
+    → ShowsMeaning r summary tells scene a b
 run_means run.Play summary tells scene a b unsummed told h =
-    record { records = h.records; played = played_told tells scene h.records (told refl) h.means; written = shown_bytes summary h.records a b h.written }
+    record { records = h.records; means = in_order_told tells scene h.records (told refl) h.means; written = shown_bytes summary h.records a b h.written }
 run_means run.Gen summary tells scene a b unsummed told h =
-    record { records = h.records; played = played_told tells scene h.records (told refl) h.means; written = shown_bytes summary h.records a b h.written }
+    record { records = h.records; means = in_order_told tells scene h.records (told refl) h.means; written = shown_bytes summary h.records a b h.written }
 run_means run.Live summary tells scene a b unsummed told h =
-    record { records = h.records; played = h.means.played; written = subst (λ (s : Bool). Appends a b (bytes_shown s h.records)) (sym (unsummed refl)) h.written.bytes }
+    record { records = h.records; means = h.means.played; written = subst (λ (s : Bool). Appends a b (bytes_shown s h.records)) (sym (unsummed refl)) h.written.bytes }

@@ -8,7 +8,8 @@ use Rattle.sf_record_sums.specs.sf_record.Records.{bytes_of, record_bytes}
 use Rattle.sf_record_sums.specs.sf_record.declared.record.Record.{Record}
 use Rattle.sf_record_sums.specs.sf_record.declared.record.Record.TheVariants as rec
 use Rattle.sf_live.specs.law_played.Ends.{ArePlayRecords}
-use Rattle.sf_live.specs.law_played.Played.{Played}
+use Rattle.sf_live.specs.law_play_order.Happening.{HappenedInOrder}
+use Rattle.sf_live.specs.law_played.Played.{PlayedWhere}
 use Rattle.sf_live.specs.sf_play_write.Writing.{CutSome, Writes, WritesPart}
 use Rattle.sf_record_sums.specs.Summaries.{summary_of, wrapped}
 
@@ -22,11 +23,17 @@ abbrev pub bytes_shown : Bool → List Record → List ℕ
 bytes_shown true records = record_bytes (rec.Summ (wrapped (summary_of records)))
 bytes_shown false records = bytes_of records
 
--- the play of a scene was shown whole: its records, which mean what a played run means, or their summary
+-- What the records of a run mean. Those of a play mean what a played run means, and that it happened in order: its calls, arrivals and
+-- vsyncs are in one order, and no vsync passes over an arrival.
+abbrev pub Means : Run → Bool → SceneValue → List Record → Type 0
+Means run.Live tells scene records = PlayedWhere tells scene records
+Means _ tells scene records = HappenedInOrder tells scene records
+
+-- the play of a scene was shown whole: its records, which mean what a played run means, in order, or their summary
 pub record ShowsPlay (summary : Bool) (scene : SceneValue) (old new : Option (List ℕ)) : Type 0 where
   pub records : List Record
   pub is_play : ArePlayRecords scene records
-  pub means : Played scene records
+  pub means : HappenedInOrder true scene records
   pub written : Writes old new (records_shown summary records)
 
 -- a prefix was written of what shows the play of a scene

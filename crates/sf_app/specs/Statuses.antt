@@ -10,9 +10,8 @@ use Rattle.law_generated.specs.sf_script.declared.fault.ScriptFault.{ScriptFault
 use Rattle.sf_record_sums.specs.sf_record.declared.record.Record.TheVariants as rec
 use Rattle.sf_record_sums.specs.sf_record.declared.record.Record.{Record}
 use Rattle.sf_record_sums.specs.sf_record.Records.{record_bytes}
-use Rattle.sf_live.specs.law_played.Played.{PlayedWhere}
 use Rattle.sf_live.specs.sf_play_write.Writing.{CutSome}
-use Rattle.sf_app.specs.Shown.{ShowsRun, ShowsRunPart, bytes_shown}
+use Rattle.sf_app.specs.Shown.{Means, ShowsRun, ShowsRunPart, bytes_shown}
 use Rattle.sf_app.specs.Words.{IsScript, IsTold, is_gen, tells_place}
 
 -- status 0: the words ask for a run, its script spells a scene, and the run of the scene was shown: its records, or a play's summary
@@ -25,8 +24,8 @@ pub record PlayedScript (asked : Option Options) (left rest taken now : Option (
   pub spelled : parsed_of bytes ≡ Ok scene
   pub run : ShowsRun options.run options.summary (tells_place options) scene taken now
 
--- what status 0 means: what was written shows records that stand to the scene as those of a played run do, in which a sender is told
--- its place, unless the words ask for a queue of arrivals
+-- what status 0 means: what was written shows records that stand to the scene as those of a played run do, those of a play in order; in
+-- it a sender is told its place, unless the words ask for a queue of arrivals
 pub record MeansScript (asked : Option Options) (left rest taken now : Option (List ℕ)) : Type 0 where
   pub options : Options
   pub right : asked ≡ Some options
@@ -35,7 +34,7 @@ pub record MeansScript (asked : Option Options) (left rest taken now : Option (L
   pub scene : SceneValue
   pub spelled : parsed_of bytes ≡ Ok scene
   pub records : List Record
-  pub played : PlayedWhere (tells_place options) scene records
+  pub means : Means options.run (tells_place options) scene records
   pub written : Appends taken now (bytes_shown options.summary records)
 
 -- a fault of this cause, which has no place

@@ -200,8 +200,8 @@ pub fn run<R: Threads + Wait + Sync, S: Source, K: Sink, G: Gate + Sync>(
     sink: &mut K,
     gate: &G,
 ) -> u8
-    // What is written shows records that stand to the script's scene as those of a played run do; with a
-    // queue of arrivals a sender is not told its place.
+    // What is written shows records that stand to the script's scene as those of a played run do, and of a
+    // play as what happened in order; with a queue of arrivals a sender is not told its place.
     ensures means { let asked = options_of (map string_bytes words.now) in
         result ≡ 0 → MeansScript asked (S.left source.old) (S.left source.new) (K.taken sink.old) (K.taken sink.new) }
 

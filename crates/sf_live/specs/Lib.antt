@@ -1,6 +1,7 @@
 pub mod Openings
 pub mod Runs
 pub mod inner
+pub use Rattle.sf_live_compositor.specs.law_play_order
 pub use Rattle.sf_live_compositor.specs.law_played
 pub use Rattle.sf_live_compositor.specs.sf_actor
 pub use Rattle.sf_live_compositor.specs.sf_actor_set

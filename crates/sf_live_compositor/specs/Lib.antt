@@ -1,6 +1,7 @@
 pub mod Keeping
 pub mod Sitting
 pub mod Vsyncs
+pub use Rattle.sf_play_write.specs.law_play_order
 pub use Rattle.sf_play_write.specs.law_played
 pub use Rattle.sf_live_threads.specs.sf_actor
 pub use Rattle.sf_play_write.specs.sf_actor_set

@@ -22,6 +22,7 @@ use Rattle.sf_play_report.specs.law_played.Played.{FitsWhere, records_of}
 use Rattle.sf_play_report.specs.law_played.Progress.{held_shown}
 use Rattle.sf_play_report.specs.law_played.Stopping.{stuck_among}
 use Rattle.law_rights.specs.Vsyncs.{IsOfTurns}
+use Rattle.law_play_order.proofs.ShownPlays.{play_happened}
 use Rattle.sf_play_report.specs.declared.report.VsyncReport.{VsyncReport}
 use Rattle.sf_play.proofs.AlongEnds.{ends_play}
 use Rattle.sf_play.proofs.AlongNext.{StageTold, PlaysOn, WasAlong, actions_on}
@@ -138,14 +139,9 @@ module _ {B : Type 0} (table : TableId) (scene : SceneValue) (so : SoFar B) (pla
       is_play = ends_play scene so player.play (subst (PlaysSo scene so player.play) ended is.along);
       are = ap (records_of scene) shows_same;
     };
-    means = λ fit. record {
-      shows = shows_at_end scene so player;
-      order = refl;
-      fit = fit;
-      run = run_so so player.play;
-      arrivals = arrived_at player.play;
-      fits = subst (λ (tells : Bool). FitsWhere tells scene (shows_at_end scene so player) (run_so so player.play) (arrived_at player.play)) is.told fits;
-    };
+    means = λ fit. play_happened scene (shows_at_end scene so player) (state_so so player.play) is.in_run.stands.stands.of_scene.limits
+        (ends_play scene so player.play (subst (PlaysSo scene so player.play) ended is.along)) fit
+        (subst (λ (tells : Bool). FitsWhere tells scene (shows_at_end scene so player) (run_so so player.play) (arrived_at player.play)) is.told fits);
   }
 
 module _ {B : Type 0} (lease : Ghosts ReadLeaseOf SeatView ReadLeaseOf Issued) (frames : OfFrames lease) (of_turns : IsOfTurns lease) (tells : TellsAll lease) (table : TableId) (scene : SceneValue) (so : SoFar B)

@@ -1,5 +1,5 @@
 -- What an action of a player tells who shows it: it goes on with a run of the scene, up to its end, and along with the scene's play.
-use Rattle.std.specs.Prelude.{◌≡◌, ℕ, ◌<◌, List, All}
+use Rattle.std.specs.Prelude.{◌≡◌, ℕ, ◌<◌, true, List, All}
 use Rattle.atomic_table.specs.Seated.{TableId}
 use Rattle.sf_script_scene.specs.Scene.{SceneValue}
 use Rattle.sf_play_report.specs.sf_actor.Scripts.{picture_at}
@@ -7,7 +7,8 @@ use Rattle.sf_play_report.specs.sf_record.Fitting.{RecordFits}
 use Rattle.sf_play_report.specs.sf_record.declared.record.Record.{Record}
 use Rattle.sf_play_report.specs.law_played.Ends.{ArePlayRecords}
 use Rattle.sf_play_report.specs.law_played.Frames.{plan_of}
-use Rattle.sf_play_report.specs.law_played.Played.{FitsWhere, Played, records_of}
+use Rattle.sf_play_report.specs.law_played.Played.{FitsWhere, records_of}
+use Rattle.law_play_order.specs.Happening.{HappenedInOrder}
 use Rattle.sf_play_report.specs.Stages.{AreExpected, IsStage}
 use Rattle.sf_play_report.specs.declared.report.VsyncReport.{VsyncReport}
 use Rattle.sf_play.specs.Ending.{shows_at_end}
@@ -30,11 +31,11 @@ module _ {B : Type 0} where
   abbrev pub records_so : SceneValue → SoFar B → PlayerOf B → List Record
   records_so scene so player = records_of scene (shows_at_end scene so player)
 
-  -- At its end the records of a player are those of the scene's play, and mean what a played run means where their numbers fit
-  -- their fields.
+  -- At its end the records of a player are those of the scene's play, and mean what a played run means, in order, where their
+  -- numbers fit their fields.
   pub record EndsPlay (scene : SceneValue) (so : SoFar B) (player : PlayerOf B) : Type 0 where
     pub are : ArePlayRecords scene (records_so scene so player)
-    pub means : All RecordFits (records_so scene so player) → Played scene (records_so scene so player)
+    pub means : All RecordFits (records_so scene so player) → HappenedInOrder true scene (records_so scene so player)
 
   -- at its end what a player has shown fits the run that its actors tell, where its desk tells places or not
   abbrev pub EndsRun : SceneValue → SoFar B → PlayerOf B → Type 0

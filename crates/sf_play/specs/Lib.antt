@@ -12,6 +12,7 @@ pub mod Standing
 pub mod Actions
 pub mod Vsyncing
 pub use Rattle.sf_play_report.specs.law_played
+pub use Rattle.law_play_order.specs as law_play_order
 pub use Rattle.law_rights.specs as law_rights
 pub use Rattle.sf_play_report.specs.sf_actor
 pub use Rattle.law_rights.specs.sf_actor_set

@@ -3,6 +3,7 @@ pub mod Runs
 pub mod Vsyncs
 pub mod Writing
 pub mod inner
+pub use Rattle.sf_play.specs.law_play_order
 pub use Rattle.sf_play.specs.law_played
 pub use Rattle.sf_play.specs.law_rights
 pub use Rattle.sf_play.specs.sf_actor_set

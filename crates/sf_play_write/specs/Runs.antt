@@ -1,16 +1,16 @@
 -- What is written of a whole play.
-use Rattle.std.specs.Prelude.{ℕ, List, Option}
+use Rattle.std.specs.Prelude.{ℕ, true, List, Option}
 use Rattle.sf_play.specs.sf_script_scene.Scene.{SceneValue}
 use Rattle.sf_play.specs.sf_record.declared.record.Record.{Record}
 use Rattle.sf_play.specs.law_played.Ends.{ArePlayRecords}
-use Rattle.sf_play.specs.law_played.Played.{Played}
+use Rattle.sf_play.specs.law_play_order.Happening.{HappenedInOrder}
 use Rattle.sf_play_write.specs.Writing.{Writes, WritesPart}
 
--- the records of a run were written: they are those of the scene's play, and they mean what a played run means
+-- the records of a run were written: they are those of the scene's play, and they mean what a played run means, in order
 pub record WroteRun (scene : SceneValue) (old new : Option (List ℕ)) : Type 0 where
   pub records : List Record
   pub is_play : ArePlayRecords scene records
-  pub means : Played scene records
+  pub means : HappenedInOrder true scene records
   pub written : Writes old new records
 
 -- a prefix of the records of the scene's play was written

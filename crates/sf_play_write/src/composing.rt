@@ -10,7 +10,7 @@ ghost use Rattle.sf_play_write.specs.Vsyncs.{AreImagesOf, AreReadableViews, HasV
 
 use sf_base::NoMemory;
 use sf_output::Output;
-use sf_output_screen::{Engine, Pixels, Screen, Screens, View};
+use sf_output_screen::{Engine, Pixels, Screen, Screens, View, painted_at_most};
 use sf_play::SourcedView;
 use std::thread;
 use std::thread::Threads;
@@ -98,7 +98,7 @@ pub fn compose_views<R: Threads + Sync, C: Pixels + Sync>(
 /// last one is looked for only where the whole is worth a thread.
 fn work_of(screens: &Screens, of: &Output<()>, view: &View) -> u64 {
     let points = u64::from(view.width).saturating_mul(u64::from(view.height));
-    let whole = points.saturating_mul(view.drawn.len() as u64);
+    let whole = painted_at_most(view, points);
     if whole < WORTH_A_THREAD {
         return whole;
     }

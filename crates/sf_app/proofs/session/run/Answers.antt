@@ -37,6 +37,6 @@ returns-clause-means g c = λ done.
       scene = p.scene;
       spelled = p.spelled;
       records = shown.records;
-      played = shown.played;
+      means = shown.means;
       written = shown.written;
     }

@@ -1,0 +1,5 @@
+pub mod ArrivalStamps
+pub mod VsyncStamps
+pub mod CompositorCalls
+pub mod CommittedArrivals
+pub mod LiveOrder

@@ -1,0 +1,5 @@
+use Rattle.law_play_order.proofs.NoneLeft.{play_leaves_none}
+use Rattle.law_play_order.proofs.a_play_passes_nobody_over.Goals as goal
+
+pub returns : goal.returns
+returns c = play_leaves_none
