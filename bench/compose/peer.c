@@ -7,7 +7,10 @@
  *   colour R G B A ALPHA OPAQUE X Y WIDTH HEIGHT
  *   buffer PICTURE ALPHA OPAQUE X Y WIDTH HEIGHT SOURCE_X SOURCE_Y ORIENT
  *
- * usage: peer ROUNDS < SCENE */
+ * Bytes stand in the order red, green, blue, alpha, as in test_layers; with the word blue in pixman's own order,
+ * blue, green, red, alpha. What is printed is the same.
+ *
+ * usage: peer ROUNDS [blue] < SCENE */
 #include <pixman.h>
 #include <stdint.h>
 #include <stdio.h>
@@ -24,10 +27,20 @@ static pixman_image_t *pictures[MOST_PICTURES], *opaque_pictures[MOST_PICTURES];
 static struct view views[VIEWS];
 static int width, height;
 
-/* Four bytes in the order red, green, blue, alpha, as they stand in memory. */
+/* Where red and blue stand among the four bytes of a pixel, and what pixman calls this order. */
+static int red = 0, blue = 2;
+static pixman_format_code_t with_alpha = PIXMAN_a8b8g8r8, without_alpha = PIXMAN_x8b8g8r8;
+
+static void put_blue_first(void) {
+    red = 2, blue = 0;
+    with_alpha = PIXMAN_a8r8g8b8, without_alpha = PIXMAN_x8r8g8b8;
+}
+
+/* The bytes of a colour, red, green, blue and alpha, as they stand in memory. */
 static uint32_t pixel_of(const int *c) {
-    uint8_t bytes[4] = {(uint8_t)c[0], (uint8_t)c[1], (uint8_t)c[2], (uint8_t)c[3]};
+    uint8_t bytes[4];
     uint32_t pixel;
+    bytes[red] = (uint8_t)c[0], bytes[1] = (uint8_t)c[1], bytes[blue] = (uint8_t)c[2], bytes[3] = (uint8_t)c[3];
     memcpy(&pixel, bytes, 4);
     return pixel;
 }
@@ -35,7 +48,7 @@ static uint32_t pixel_of(const int *c) {
 static pixman_color_t colour_of(uint32_t pixel) {
     uint8_t c[4];
     memcpy(c, &pixel, 4);
-    return (pixman_color_t){(uint16_t)(c[0] * 257), (uint16_t)(c[1] * 257), (uint16_t)(c[2] * 257), (uint16_t)(c[3] * 257)};
+    return (pixman_color_t){(uint16_t)(c[red] * 257), (uint16_t)(c[1] * 257), (uint16_t)(c[blue] * 257), (uint16_t)(c[3] * 257)};
 }
 
 /* Takes the points of a turned layer's box to the points of its picture. */
@@ -98,8 +111,8 @@ static void add_picture(int number, const int *n, int count) {
     for (int at = 2; at + 8 <= count; at += 8)
         for (int y = n[at + 1]; y < n[at + 1] + n[at + 3]; y++)
             for (int x = n[at]; x < n[at] + n[at + 2]; x++) pixels[y * w + x] = pixel_of(&n[at + 4]);
-    pictures[number] = pixman_image_create_bits_no_clear(PIXMAN_a8b8g8r8, w, h, pixels, w * 4);
-    opaque_pictures[number] = pixman_image_create_bits_no_clear(PIXMAN_x8b8g8r8, w, h, pixels, w * 4);
+    pictures[number] = pixman_image_create_bits_no_clear(with_alpha, w, h, pixels, w * 4);
+    opaque_pictures[number] = pixman_image_create_bits_no_clear(without_alpha, w, h, pixels, w * 4);
 }
 
 static void print(const uint32_t *pixels) {
@@ -109,7 +122,7 @@ static void print(const uint32_t *pixels) {
         if (i + 1 < width * height && pixels[i + 1] == pixels[i]) continue;
         uint8_t c[4];
         memcpy(c, &pixels[i], 4);
-        printf("  %d x %d %d %d %d\n", run, c[0], c[1], c[2], c[3]);
+        printf("  %d x %d %d %d %d\n", run, c[red], c[1], c[blue], c[3]);
         run = 0;
     }
 }
@@ -118,6 +131,7 @@ int main(int argc, char **argv) {
     static char line[1 << 20];
     static int n[1 << 17];
     int rounds = argc > 1 ? atoi(argv[1]) : 1, count_pictures = 0, at = -1;
+    if (argc > 2 && !strcmp(argv[2], "blue")) put_blue_first();
     while (fgets(line, sizeof line, stdin)) {
         char *rest = strchr(line, ' ');
         int count = rest ? numbers(rest + 1, n, 1 << 17) : 0;
@@ -130,7 +144,7 @@ int main(int argc, char **argv) {
             views[at].layers[views[at].count++] = (struct layer){.is_buffer = 1, .picture = n[0], .alpha = n[1], .opaque = n[2], .x = n[3], .y = n[4], .width = n[5], .height = n[6], .source_x = n[7], .source_y = n[8], .orient = n[9]};
     }
     uint32_t *pixels = malloc((size_t)width * (size_t)height * 4);
-    pixman_image_t *frame = pixman_image_create_bits_no_clear(PIXMAN_a8b8g8r8, width, height, pixels, width * 4);
+    pixman_image_t *frame = pixman_image_create_bits_no_clear(with_alpha, width, height, pixels, width * 4);
     compose(&views[0], frame, pixels);
     for (int round = 0; round < rounds; round++) compose(&views[1 - round % 2], frame, pixels);
     print(pixels);

@@ -1,7 +1,8 @@
 #!/usr/bin/env python3
 """Times composing beside pixman, and the looking for damage and for what shows.
 
-It wants Debian's libpixman-1-dev, a C compiler, and test_layers built (`rt run` in
+pixman is asked in this project's order of bytes, red first, and in its own, blue first, for which it
+has the most code. It wants Debian's libpixman-1-dev, a C compiler, and test_layers built (`rt run` in
 crates/test_layers). Both programs compose the frames of two views in turns, their last
 frames are compared, and the best of several runs of each counts, taken in turns. What a
 run takes beside its frames is taken off: the time of one with no frames.
@@ -16,6 +17,9 @@ import tempfile
 import time
 
 HERE = os.path.dirname(os.path.abspath(__file__))
+# The orders of bytes in which pixman is asked, and the ways in which a frame is composed here, each as it is said.
+ORDERS = ("red", "blue")
+WORK = {"whole": "composed whole", "again": "composed where it differs and shows"}
 PROGRAM = os.path.join(HERE, "..", "..", "crates", "test_layers", "out", "test_layers")
 
 
@@ -154,10 +158,11 @@ def marks(scene):
     return measure
 
 
-def peer(program, scene, keep):
+def peer(program, scene, keep, order):
+    """pixman in a byte order: that of this project, or its own."""
     def measure(count):
-        out, spent, _ = run([program, str(count)], scene.peer())
-        keep["pixman", count] = out
+        out, spent, _ = run([program, str(count), order], scene.peer())
+        keep[order, count] = out
         return spent
     return measure
 
@@ -168,12 +173,13 @@ def micro(seconds):
 
 def beside_pixman(program, name, scene, times, frames=1201):
     kept = {}
-    spent = best(times, [("pixman", frames, peer(program, scene, kept)), ("whole", frames, ours(scene, "whole", keep=kept)),
-                         ("again", frames, ours(scene, "again", keep=kept))])
-    same = len({kept[who, frames] for who in ("pixman", "whole", "again")}) == 1
-    print("%s: a frame takes pixman %s, composed whole %s (%.2f of pixman), where it differs and shows %s (%.2f); %s"
-          % (name, micro(spent["pixman"]), micro(spent["whole"]), spent["whole"] / spent["pixman"], micro(spent["again"]),
-             spent["again"] / spent["pixman"], "the same bytes" if same else "DIFFERENT BYTES"))
+    spent = best(times, [(order, frames, peer(program, scene, kept, order)) for order in ORDERS]
+                 + [(work, frames, ours(scene, work, keep=kept)) for work in WORK])
+    same = len({kept[who, frames] for who in (*ORDERS, *WORK)}) == 1
+    print("%s: a frame takes pixman %s with red first and %s with blue first, its own order; %s; %s" % (
+        name, *(micro(spent[order]) for order in ORDERS),
+        ", ".join("%s %s (%.2f and %.2f of pixman)" % (WORK[work], micro(spent[work]), *(spent[work] / spent[order] for order in ORDERS)) for work in WORK),
+        "the same bytes" if same else "DIFFERENT BYTES"))
 
 
 def by_workers(times):

@@ -27,7 +27,7 @@ class Above(unittest.TestCase):
             self.assertEqual(cost_of("low", {"low": seconds}), said, seconds)
 
     def test_the_recipes_are_among_the_pages(self):
-        self.assertIn("CONTRIBUTING.md", pages_with("sf_ready"))
+        self.assertIn("docs/RECIPES.md", pages_with("sf_ready"))
 
     def test_the_page_on_the_gate_has_each_crate(self):
         self.assertEqual(sorted(seconds_of(read(GATE))), sorted(lists_of(read_rooms())))

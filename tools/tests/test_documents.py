@@ -9,6 +9,7 @@ import unittest
 from surbeldoi import TOP
 from surbeldoi.build.rooms import lists_of, read_rooms
 from surbeldoi.commands.run import LEFT
+from surbeldoi.judging.suite import worked_scenes
 from surbeldoi.model.playing import Play
 from surbeldoi.records.stream import FORMS, OUTPUTS, faults, read
 from surbeldoi.records.wording import CALLS, HOLDS, REJECTS, STATUSES, field_text, plain
@@ -18,6 +19,8 @@ from tests.test_scenes import of_some_form
 
 # How many words a sentence has at most; a piece of code counts as one.
 MOST_WORDS = 35
+# A screen, in lines and columns.
+SCREEN_LINES, SCREEN_COLUMNS = 50, 100
 DOCUMENTS = ["README.md", "CONTRIBUTING.md", "CHANGELOG.md"] + sorted(os.path.relpath(path, TOP) for path in glob.glob(os.path.join(TOP, "docs", "**", "*.md"), recursive=True))
 
 
@@ -41,6 +44,11 @@ def sentences(page):
 def words(page):
     """The words of a page, those of its tables too; no pictures, and no rules and bars of tables."""
     return re.sub(r"```.*?```|^\|[-|]+$", "", page, flags=re.S | re.M).replace("|", " ").split()
+
+
+def lines_of_a_screen(page):
+    """How many lines of a screen a page takes, as it reads: without the targets of its links."""
+    return sum(max(1, -(-len(line) // SCREEN_COLUMNS)) for line in re.sub(r"\]\([^)]*\)", "]", page).splitlines())
 
 
 def anchors(path):
@@ -73,6 +81,14 @@ def named(cells):
 
 
 class Documents(unittest.TestCase):
+    def test_each_decision_says_what_was_open(self):
+        entries = 0
+        for path in DOCUMENTS:
+            for entry in re.findall(r"^- .*$", text(path), re.M) if path.startswith("docs/decisions/") else ():
+                self.assertTrue(re.match(r"- \*\*.*\bOpen[:.] ", entry), f"{path}: what else was open: {entry[:100]}")
+                entries += 1
+        self.assertGreater(entries, 100)
+
     def test_links_lead_to_files_and_headings(self):
         for path in DOCUMENTS:
             for target in re.findall(r"\]\(([^)]*)\)", text(path)):
@@ -88,6 +104,9 @@ class Documents(unittest.TestCase):
         for path, most in (("README.md", 900), ("docs/ARCHITECTURE.md", 1500), ("docs/PROVED.md", 8000)):
             self.assertLessEqual(len(words(text(path))), most, path)
 
+    def test_the_page_for_contributors_is_two_screens(self):
+        self.assertLessEqual(lines_of_a_screen(text("CONTRIBUTING.md")), 2 * SCREEN_LINES)
+
     def test_sentences_are_short(self):
         for path in DOCUMENTS:
             for sentence in sentences(text(path)):
@@ -101,6 +120,8 @@ class Documents(unittest.TestCase):
             for row in re.findall(r"^\| (.*) \|$", section, re.M):
                 for name in named(row.split(" | ")[1:]):
                     self.assertTrue(name in names, f"{section.splitlines()[0]}: {name} in {row[:100]}")
+            for name in named(re.findall(r"\[((?:`\w+`(?:, )?)+)\]", section)):
+                self.assertTrue(name in names, f"{section.splitlines()[0]}: {name} of what a caller owes")
 
     def test_the_page_on_meaning_names_definitions_that_stand(self):
         names = set().union(*map(names_in, lists_of(read_rooms())))
@@ -109,7 +130,7 @@ class Documents(unittest.TestCase):
                 self.assertTrue(name in names, f"{name} in {cited[:100]}")
 
     def test_the_recipes_name_files_that_stand(self):
-        rows = re.findall(r"^\| (.*) \| (.*) \|$", text("CONTRIBUTING.md"), re.M)
+        rows = re.findall(r"^\| (.*) \| (.*) \|$", text("docs/RECIPES.md"), re.M)
         named_files = 0
         for where, what in rows:
             folders = [os.path.join(TOP, "crates", name) for name in re.findall(r"`(\w+)`", where)] + [os.path.join(TOP, name) for name in re.findall(r"`(tools/[\w/]+)`", where)]
@@ -118,6 +139,13 @@ class Documents(unittest.TestCase):
                 self.assertTrue(any(path.endswith(os.sep + name) for path in files), f"{where}: {name}")
                 named_files += 1
         self.assertGreater(named_files, 50)
+
+    def test_counts_of_scenes_and_stored_runs_are_today_s(self):
+        stored = text("crates/test_program/stdout")
+        self.assertIn(f"- {len(re.findall(r'^== .* status 0$', stored, re.M))} runs end with 0", text("docs/PROVED.md"))
+        names = [name for name, _ in worked_scenes()]
+        here = sum(name.startswith("scenes" + os.sep) for name in names)
+        self.assertIn(f"the {here} in `scenes/` and the {len(names) - here} in `crates/test_program/data/`", text("docs/JUDGING.md"))
 
     def test_the_page_on_viewing_names_what_a_run_leaves(self):
         page = text("docs/VIEWING.md")

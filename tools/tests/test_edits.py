@@ -60,14 +60,24 @@ class Edits(unittest.TestCase):
         self.assertEqual(edits.stale({}, self.top), ["low"])
         tried = {"low": (edits.sum_of("low", edits.crates(self.top), self.top), 1)}
         self.assertEqual(edits.stale(tried, self.top), [])
-        self.write("crates/low/src/lib.rt", TEXT + "// more\n")
+        self.write("crates/low/src/lib.rt", TEXT + "const MORE: u32 = 1;\n")
+        self.assertEqual(edits.stale(tried, self.top), ["low"])
+
+    def test_a_comment_makes_nothing_stale(self):
+        self.fault("file: src/lib.rt\nold: n + n\nnew: n\n")
+        self.write("crates/low/specs/Lib.antt", "pub mod Twice\n")
+        tried = {"low": (edits.sum_of("low", edits.crates(self.top), self.top), 1)}
+        self.write("crates/low/src/lib.rt", "//! Twice a number.\n" + TEXT.replace("    n", "    // the sum\n    n"))
+        self.write("crates/low/specs/Lib.antt", "-- what is twice a number\npub mod Twice\n")
+        self.assertEqual(edits.stale(tried, self.top), [])
+        self.write("crates/low/specs/Lib.antt", "pub mod Once -- no comment on a line of its own\n")
         self.assertEqual(edits.stale(tried, self.top), ["low"])
 
     def test_definitions_that_a_crate_cites_are_part_of_its_text(self):
         self.write("crates/high/src/lib.rt", TEXT)
         self.write("crates/high/wrong/once.edit", "file: src/lib.rt\nold: n + n\nnew: n\n")
         before = edits.sum_of("high", edits.crates(self.top), self.top)
-        self.write("crates/low/src/lib.rt", TEXT + "// more\n")
+        self.write("crates/low/src/lib.rt", TEXT + "const MORE: u32 = 1;\n")
         self.assertEqual(edits.sum_of("high", edits.crates(self.top), self.top), before)
         self.write("crates/low/specs/Lib.antt", "pub mod Twice\n")
         self.assertNotEqual(edits.sum_of("high", edits.crates(self.top), self.top), before)

@@ -93,8 +93,6 @@ impl Drop for Row {
 }
 """,
 }
-# What is to be moved with the next change of its crate: a move alone would have all crates above proved anew.
-LATER = ["crates/sf_surface/specs/Lent.antt: public contracts do not lead to it, so it lies in specs/inner/"]
 
 
 class Reached(unittest.TestCase):
@@ -128,7 +126,7 @@ class Reached(unittest.TestCase):
                 self.assertEqual(misplaced(self.sources({**FILES, path: FILES[path].replace(old, new)})), told, title)
 
     def test_each_module_of_the_repository_lies_where_it_belongs(self):
-        self.assertEqual(misplaced(Sources()), LATER)
+        self.assertEqual(misplaced(Sources()), [])
 
 
 if __name__ == "__main__":

@@ -17,7 +17,7 @@ BOX = 44
 # A crate with more paths than this below it takes older kits minutes to read, each time it is checked.
 MOST_PATHS = 5000
 MEND = ("list in crates.txt only what the crate stands on directly, and let those crates hand on what it names besides, by `pub use` "
-        "lines in specs/Lib.antt, proofs/Lib.antt and src/lib.rt (CONTRIBUTING.md, \"Recipes\")")
+        "lines in specs/Lib.antt, proofs/Lib.antt and src/lib.rt (docs/RECIPES.md, \"A new module or crate\")")
 
 
 class Room(NamedTuple):

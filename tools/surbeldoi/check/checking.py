@@ -2,8 +2,8 @@
 
 The parts are checked in the order in which one needs what another finds: the order of the records, the traces with the
 replies, the arrivals, the commits with what they release, the calls on queues, and then all that is said of these. Behind them
-stand parts that the meaning does not have: all that happened fits one order, no vsync passes over an arrival, and what is known
-without a call fits that order, too. The first part that is found not to hold refuses the records.
+stand parts that the meaning of a live run does not have: all that happened fits one order, no vsync passes over an arrival, and
+what is known without a call fits that order, too. The first part that is found not to hold refuses the records.
 """
 
 from collections import Counter

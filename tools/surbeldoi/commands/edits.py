@@ -19,6 +19,7 @@ from surbeldoi.commands.words import Command, WrongWords
 
 STAMPS = os.path.join(TOP, "docs", "edits.tsv")
 HEAD = "crate\tsum of its text\trefused\n"
+COMMENTS = {".rt": b"//", ".antt": b"--"}
 
 
 class BadEdit(Exception):
@@ -113,14 +114,21 @@ def files_below(folder, parts):
             yield from (os.path.join(at, name) for name in sorted(names))
 
 
+def told_in(path):
+    """What a file says beside comments that have lines of their own, since these change no refusal."""
+    mark = COMMENTS.get(os.path.splitext(path)[1])
+    with open(path, "rb") as file:
+        lines = file.read().split(b"\n")
+    return b"\n".join(line for line in lines if not (mark and line.lstrip().startswith(mark)))
+
+
 def sum_of(name, named, top=TOP):
-    """A sum of what a refusal rests on: the crate's own text and edits, and the definitions that it can cite."""
+    """A sum of what a refusal rests on: the crate's own text and edits, and the definitions that it can cite, without comments."""
     total = hashlib.sha256()
     for crate, parts in [(name, ("src", "specs", "proofs", "wrong"))] + [(it, ("specs",)) for it in below(name, named)]:
         for path in files_below(os.path.join(top, "crates", crate), parts):
             total.update(os.path.relpath(path, top).encode() + b"\0")
-            with open(path, "rb") as file:
-                total.update(file.read() + b"\0")
+            total.update(told_in(path) + b"\0")
     return total.hexdigest()[:16]
 
 

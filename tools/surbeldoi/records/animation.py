@@ -1,4 +1,8 @@
-"""Frames that move: as an animated PNG, and as raw video in YUV4MPEG2, which ffmpeg and mpv read."""
+"""Frames that move: as an animated PNG, and as raw video in YUV4MPEG2, which ffmpeg and mpv read.
+
+Raw video has luma and chroma of each pixel by BT.601, since players take no colours in that form. Of a frame of an animated PNG only the
+rectangle that changed is stored. The last frame stands for a second, since one that lasts a vsync is not seen before the first comes again.
+"""
 
 import struct
 import zlib
