@@ -186,7 +186,7 @@ module _ {B : Type 0} where
   -- want of memory adds nothing
   pub memory_goes : (actor : ℕ) (home : DeskHome) (old new : DeskView B) → IsAsBefore old new → GoesOn actor (known_of home old) (known_of home new)
   memory_goes actor home old new same =
-      subst (λ (view : DeskView B). GoesOn actor (known_of home old) (known_of home view)) (sym same.same) (goes_same actor (known_of home old))
+      subst (λ (view : DeskView B). GoesOn actor (known_of home old) (known_of home view)) (sym same) (goes_same actor (known_of home old))
 
   -- over a desk that is exact, a transaction that is sent is only the caller's
   pub send_alone : (actor : ℕ) (home : DeskHome) (old new : DeskView B) (by step : ℕ) (txn : Contents ReadLeaseOf) (number : ℕ) → home.is_exact ≡ true → by ≢ actor → MadeSend home old new by step txn number → GoesOn actor (known_of home old) (known_of home new)

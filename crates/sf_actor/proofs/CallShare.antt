@@ -79,18 +79,6 @@ module _ {B : Type 0} where
         counts = counts_same old.turns.seen new.turns.seen (ap (λ (view : DeskView B). view.turns.seen) same);
       }
 
-  -- what grows before and after the call
-  pub goes_then : (queue : ℕ) (made : Call B) (old mid new : Share B) → ShareGoesOn old mid → OneMore queue made mid new → OneMore queue made old new
-  goes_then queue made old mid new goes more = record {
-    here = more.here ∙ ap (λ (xs : List (Call B)). xs ++ made ∷ []) (goes.calls queue);
-    others = λ other apart. more.others other apart ∙ goes.calls other;
-    arrivals = more.arrivals ∙ goes.arrivals;
-    values = λ t low high. let a = goes.values t low high in let b = more.values t low high in omega (arith, a, b);
-    signals = λ p there. more.signals p (goes.signals p there);
-    left = λ p there. more.left p (goes.left p there);
-    counts = λ b. let one = goes.counts b in let two = more.counts b in omega (arith, one, two);
-  }
-
   pub then_goes : (queue : ℕ) (made : Call B) (old mid new : Share B) → OneMore queue made old mid → ShareGoesOn mid new → OneMore queue made old new
   then_goes queue made old mid new more goes = record {
     here = goes.calls queue ∙ more.here;

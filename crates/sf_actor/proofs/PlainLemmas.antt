@@ -152,7 +152,7 @@ module _ {B : Type 0} where
   pub desk_same : (desk : PlainOf B) (queue place : ℕ) (one next : ObjectOf B) → IsAfterCall desk queue place one next → next ≡ one → IsAsBefore (view_of desk) (view_of (with_queue desk place next))
   desk_same desk queue place one next h same =
       let queues : set desk.queues place next ≡ desk.queues = ap (λ (o : ObjectOf B). set desk.queues place o) (same ∙ h.there) ∙ set-get_or desk.queues place one in
-      record { same = ap (λ (objects : List (ObjectOf B)). view_of (record desk { queues = objects })) queues; locked = omega arith }
+      ap (λ (objects : List (ObjectOf B)). view_of (record desk { queues = objects })) queues
 
   -- what no call changes stays
   pub home_stays : (desk : PlainOf B) (queue place : ℕ) (one next : ObjectOf B) → IsAfterCall desk queue place one next → home_of (with_queue desk place next) ≡ home_of desk

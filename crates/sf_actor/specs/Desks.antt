@@ -1,4 +1,4 @@
--- What a desk has and knows, and what its calls tell.
+-- What a desk has and knows, and what its calls report.
 use Rattle.std.specs.Prelude.{◌≡◌, ◌≢◌, ℕ, ◌+◌, ◌<◌, ◌≤◌, ◌==◌, Bool, true, false, if◌then◌else◌}
 use Rattle.std.specs.Prelude.{Option, List, [], ◌∷◌, ◌++◌, length, map}
 use Rattle.std.specs.List.{list_any, range_with_len}
@@ -20,7 +20,7 @@ use Rattle.sf_token.specs.sf_txn.Transactions.{Contents}
 use Rattle.sf_actor.specs.Known.{ArriveWithout, Known, number_told}
 
 -- What no call of a desk changes: the marks of its queues; whether all that happens goes through it, so that what it knows
--- is exact; whether it tells a sender the place of its transaction among the arrivals; the tables that its passes and seats
+-- is exact; whether it reports to a sender the place of its transaction among the arrivals; the tables that its passes and seats
 -- are of; the callers that it serves; the intake that its transactions go through, where they go through one; and, where it is
 -- exact, how many of its arrivals a compositor has taken.
 pub record DeskHome : Type 0 where
@@ -62,7 +62,7 @@ module _ {B : Type 0} where
   abbrev pub looks : DeskView B → ℕ
   looks view = (view.locked + length view.times.shown) + length view.turns.seen
 
-  -- what an actor's trace is told of by a desk
+  -- what a desk says of an actor's trace
   abbrev pub known_of : DeskHome → DeskView B → Known B
   known_of home view = record {
     marks = mark_among home.marks;
@@ -75,10 +75,9 @@ module _ {B : Type 0} where
     counts = view.turns.seen;
   }
 
-  -- nothing was learnt; the desk may have had a turn under a lock
-  pub record IsAsBefore (old new : DeskView B) : Type 0 where
-    pub same : new ≡ record old { locked = new.locked }
-    pub locked : old.locked ≤ new.locked
+  -- nothing was learnt, and the desk had no turn under a lock
+  abbrev pub IsAsBefore : DeskView B → DeskView B → Type 0
+  IsAsBefore old new = new ≡ old
 
   -- the calls of one queue alone changed
   pub record ChangesQueue (old new : DeskView B) (queue : ℕ) : Type 0 where
@@ -107,7 +106,7 @@ module _ {B : Type 0} where
     pub looked : home.is_exact ≡ false → old.locked < new.locked
 
   -- a transaction that was sent: it is the last of the arrivals that are known now, and the arrivals before it go on from those
-  -- that were known with none of the caller's; the caller is told its place among them, or 0 where the desk tells no place, and
+  -- that were known with none of the caller's; the caller learns its place among them, or 0 where the desk reports no place, and
   -- then nothing else is known to have arrived
   pub record MadeSend (home : DeskHome) (old new : DeskView B) (by step : ℕ) (txn : Contents ReadLeaseOf) (number : ℕ) : Type 0 where
     pub same : new ≡ record old { arrivals = new.arrivals; locked = new.locked }

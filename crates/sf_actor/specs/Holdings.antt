@@ -33,7 +33,7 @@ module _ {B : Type 0} where
   token_of (holding.Reads lease) = Frame lease.queue (frame_of lease).1
   token_of (holding.Frees queue loose) = Apart queue loose.held
 
-  -- what names and transaction numbers hold, as a trace tells it
+  -- what names and transaction numbers hold, as a trace says
   abbrev pub plain_of : HoldingsOf B → Holdings
   plain_of parts = record { names = map (option_map token_of) parts.names; transactions = map (option_map plain_txn) parts.transactions }
 

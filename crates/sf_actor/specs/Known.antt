@@ -16,7 +16,7 @@ use Rattle.sf_token.specs.sf_txn.Transactions.{Contents}
 use Rattle.sf_actor.specs.Names.{FrameOf}
 use Rattle.sf_actor.specs.ScriptTraces.{OwnOf}
 
--- the queues' marks and calls by the numbers of queues, the newest call first; whether a sender is told its place; and the
+-- the queues' marks and calls by the numbers of queues, the newest call first; whether a sender learns its place; and the
 -- arrivals in order
 pub record Known (B : Type 0) : Type 0 where
   pub marks : ℕ → QueueMark
@@ -28,13 +28,13 @@ pub record Known (B : Type 0) : Type 0 where
   pub left : List (ℕ × ℕ)
   pub counts : List (ℕ × ℕ)
 
--- a call with what it tells, without rights
+-- a call with what it reports, without rights
 pub record Call (B : Type 0) : Type 0 where
   pub made : Made B
   pub told : Entry
 
 module _ {B : Type 0} where
-  -- a call with what it tells after the calls before it
+  -- a call with what it reports after the calls before it
   abbrev pub call_after : QueueMark → List (Made B) → Made B → Call B
   call_after mark earlier made = record { made = made; told = told_entry mark (told mark earlier) made }
 
@@ -55,12 +55,12 @@ pub record Share (B : Type 0) : Type 0 where
 abbrev pub is_sent_by : ℕ → Arrival ReadLeaseOf → Bool
 is_sent_by actor arrived = arrived.actor.0 == actor
 
--- the number that a sender is told of its transaction: its place among the arrivals, or 0 where no place is told
+-- the number that a sender gets for its transaction: its place among the arrivals, or 0 where no place is reported
 abbrev pub number_told : Bool → ℕ → ℕ
 number_told true number = number
 number_told false number = 0
 
--- arrivals with the numbers that their senders were told
+-- arrivals with the numbers that their senders got
 abbrev pub arrivals_told : {L : Type 0} → Bool → List (Arrival L) → List (Arrival L)
 arrivals_told true arrivals = arrivals
 arrivals_told {L} false arrivals = map (λ (arrived : Arrival L). record arrived { number = 0 }) arrivals

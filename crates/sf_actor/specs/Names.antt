@@ -1,4 +1,4 @@
--- What the names and the transaction numbers of an actor hold, as far as its steps tell it.
+-- What the names and the transaction numbers of an actor hold, as far as its steps say.
 use Rattle.std.specs.Prelude.{ℕ, Bool, true, false, ◌==◌, List, map, get_or, slice_set, replicate, Option, Some, None, if◌then◌else◌}
 use Rattle.sf_base.specs.Fences.{Fence}
 use Rattle.sf_base.specs.declared.ids.QueueId.{QueueId}

@@ -13,7 +13,7 @@ use Rattle.sf_surface.specs.sf_turns.Views.{SeatView}
 use Rattle.sf_token.specs.sf_txn.Transactions.{Contents}
 use Rattle.sf_actor.specs.Desks.{DeskHome, DeskView}
 
--- its queues, the calls on the arrivals, its seats at the timelines and at the turns, and whether it tells a sender the place of
+-- its queues, the calls on the arrivals, its seats at the timelines and at the turns, and whether it reports to a sender the place of
 -- its transaction
 pub record PlainOf (B : Type 0) : Type 0 where
   pub queues : List (ObjectOf B)
@@ -71,7 +71,7 @@ pub record WaitsOn {B : Type 0} (old new : ObjectOf B) (by : ℕ) (asked : ℕ �
   pub same : new ≡ old
   pub not_yet : Answers (mark_of old) old.calls by asked waits
 
--- a transaction was sent: it is the last that arrived, and its sender is told its place
+-- a transaction was sent: it is the last that arrived, and its sender learns its place
 pub record IsSentTo (old new : Calls ReadLeaseOf SeatView ReadLeaseOf Issued) (by step : ℕ) (txn : Contents ReadLeaseOf) (number : ℕ) : Type 0 where
   pub last : sent new ≡ sent old ++ record { number = length (sent old) + 1; actor = record { 0 = by }; step = step; txn = txn } ∷ []
   pub place : number ≡ length (sent old) + 1

@@ -22,7 +22,7 @@ pub record OwnOf : Type 0 where
   pub arrivals : List (Arrival FrameOf)
   pub values : Seen
 
--- a reply is the one that the step told, where it told one
+-- a reply is the one that the step reports, where it reports one
 abbrev pub TellsReply : Option PlainReply → PlainReply → Type 0
 TellsReply None reply = Unit {0}
 TellsReply (Some told) reply = told ≡ reply
@@ -37,7 +37,7 @@ pub record IsMade (made : MadeStep) (entry : Entry) : Type 0 where
 abbrev pub made_on : ℕ → List MadeStep → List MadeStep
 made_on queue made = filter (λ step. step.asked.0.0 == queue) made
 
--- an arrival as its step told it
+-- an arrival as its step reports it
 abbrev pub sent_as : Arrival FrameOf → SentStep
 sent_as arrived = record { step = arrived.step; number = arrived.number; txn = arrived.txn }
 

@@ -1,4 +1,4 @@
--- The trace of an actor: the steps that it has done with their whole answers, and what they tell.
+-- The trace of an actor: the steps that it has done with their whole answers, and what follows from them.
 use Rattle.std.specs.Prelude.{◌≡◌, ℕ, ◌+◌, ◌⊎◌, Bool, true, false, ◌&&◌, if◌then◌else◌}
 use Rattle.std.specs.Prelude.{List, [], ◌∷◌, ◌++◌, map, replicate, get_or, slice_set, Option, Some, None}
 use Rattle.std.specs.List.{All, flat_map}
@@ -120,7 +120,7 @@ pub data Source : Type 0 where
   GivenAt : ℕ → Source
   TakenFrame : FrameOf → Source
 
--- a call that a step made on a queue: the place of the step, the call, the reply where the step told it, and where the token
+-- a call that a step made on a queue: the place of the step, the call, the reply where the step reports it, and where the token
 -- comes from that it brings
 pub record MadeStep : Type 0 where
   pub step : ℕ
@@ -156,7 +156,7 @@ made_at pictures at =
 abbrev pub made_by : (ℕ → Picture) → List Done → List MadeStep
 made_by pictures trace = flat_map (made_at pictures) (places_of trace)
 
--- a transaction that a step sends, with the number that the step was told
+-- a transaction that a step sends, with the number that the step got
 pub record SentStep : Type 0 where
   pub step : ℕ
   pub number : ℕ

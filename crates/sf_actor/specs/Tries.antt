@@ -1,4 +1,4 @@
--- A try of an actor's next step: what it keeps, and what it tells.
+-- A try of an actor's next step: what it keeps, and what it reports.
 use Rattle.std.specs.Prelude.{◌≡◌, ◌≢◌, ℕ, ◌+◌, ◌<◌, ◌≤◌, Bool, true, false, if◌then◌else◌}
 use Rattle.std.specs.Prelude.{List, [], ◌∷◌, ◌++◌, drop, filter, length, get_or, Contains, Option, Some, None, slice_get}
 use Rattle.std.specs.List.{All}
@@ -80,7 +80,7 @@ module _ {B : Type 0} where
     pub unused : (number queue : ℕ) (made : Call B) → Contains actor.parts.stock number → Contains (share.calls queue) made → MadeWith number made → ⊥
     pub enough : dequeues_in (drop (length actor.trace) actor.script.steps) ≤ length actor.parts.stock
 
-  -- What an actor keeps: what its trace keeps; what it has is what the trace tells, each right being the one that was given
+  -- What an actor keeps: what its trace keeps; what it has is what the trace says, each right being the one that was given
   -- with the token, and each owed drawing and acquired frame that of a call; and the points that its steps showed are reached.
   pub record ActorKept (pictures : ℕ → Picture) (actor : ActorOf B) (share : Share B) : Type 0 where
     pub kept : TraceKept pictures actor.script actor.stock actor.trace actor.replies share
@@ -163,7 +163,7 @@ module _ {B : Type 0} where
   abbrev pub ended_by : HoldingsOf B → Done → List Turn
   ended_by parts done = if was_done done.answered then turn_ended parts done.step else []
 
-  -- A step that is done adds its trace entry and its reply, and the signals and turns that the entry tells; and where what is
+  -- A step that is done adds its trace entry and its reply, and the signals and turns that the entry has; and where what is
   -- known is exact, only this actor called and sent.
   pub record DoesStep (pictures : ℕ → Picture) (home : DeskHome) (old : ActorOf B) (before : DeskView B) (new : ActorOf B) (after : DeskView B) (reply : Reply) : Type 0 where
     pub done : Done
@@ -203,7 +203,7 @@ module _ {B : Type 0} where
     pub arrivals : after.arrivals ≡ before.arrivals
     pub alone : home.is_exact ≡ true → (other : ℕ) → GoesOn other (known_of home before) (known_of home after)
 
-  -- what a try tells; an actor that has done all its steps is left
+  -- what a try reports; an actor that has done all its steps is left
   abbrev pub Tries : (ℕ → Picture) → DeskHome → ActorOf B → DeskView B → ActorOf B → DeskView B → Stepped → Type 0
   Tries pictures home old before new after stepped.Done = (reply : Reply) × DoesStep pictures home old before new after reply
   Tries pictures home old before new after stepped.NotYet = LeavesStep pictures home old before new after

@@ -23,15 +23,15 @@ pub trait Desk<K: Tokens> {
 
     ghost view: { Self → DeskView K.Table };
 
-    /// Tells that an exact desk knows all that happened. It does nothing: an exact desk keeps this of
-    /// itself.
+    /// States that an exact desk knows all that happened. It does nothing: an exact desk keeps this
+    /// of itself.
     fn exact(&self)
         ensures { (home self.now).is_exact ≡ true → KnowsAll (view self.now) };
 
     /// Makes a call on a queue, for a step of an actor, from 1.
     ///
-    /// NotYet exactly where the queue answered so in this call. For want of memory the call comes
-    /// back, and nothing was done.
+    /// NotYet exactly where the queue answered so in this call. Where memory runs out the call
+    /// comes back, and nothing was done.
     fn call(
         &mut self,
         by: ActorId,
@@ -48,8 +48,9 @@ pub trait Desk<K: Tokens> {
         ensures no_memory { IfFaultNoMemory result (λ back. (back ≡ call) × IsAsBefore (view self.old) (view self.new)) }
         ensures home { home self.new ≡ home self.old };
 
-    /// Sends a transaction, for a step of an actor, from 1. The number of the arrival, from 1. Out
-    /// of memory the transaction comes back, and what the desk shows is as before.
+    /// Sends a transaction, for a step of an actor, from 1. The number of the arrival, from 1, or 0
+    /// where the desk reports no places. Out of memory the transaction comes back, and what the
+    /// desk shows is as before.
     fn send(&mut self, by: ActorId, step: u32, txn: K::Sent) -> Result<u32, (NoMemory, K::Sent)>
         requires served { (home self.old).serves by.0 ≡ true }
         ensures sent { IfOk result (MadeSend (home self.old) (view self.old) (view self.new) by.0 step (K.sent txn)) }

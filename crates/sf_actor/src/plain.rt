@@ -38,7 +38,7 @@ pub struct PlainDesk<B: TableName> {
     pub times: TimeSeat,
     /// The only seat at the turns.
     pub turns: TurnSeat<Painted>,
-    /// Whether a sender is told the place of its transaction among the arrivals.
+    /// Whether a sender learns the place of its transaction among the arrivals.
     pub tells: bool,
 }
 
@@ -105,7 +105,8 @@ impl<B: TableName> PlainDesk<B> {
     ghost use Rattle.std.specs.Prelude.{◌≡◌, true};
     ghost use Rattle.sf_times.specs.Seats.{IsAlone};
 
-    /// A desk of these, with their only seats, which tells a sender the place of its transaction or does not.
+    /// A desk of these, with their only seats, which reports the place of a transaction to its
+    /// sender or does not.
     pub fn new(
         queues: Vec<QueueObject<B>>,
         arrivals: Arrivals<ReadLease<B>, Brand>,

@@ -26,7 +26,7 @@ fn let_go<B: TableName>(reply: QReply<B>)
 }
 
 /// Whether a call that gives nothing and never waits was made. Its reply is let go, and so is what
-/// comes back for want of memory.
+/// comes back where memory runs out.
 pub fn settle<B: TableName>(outcome: Result<QReply<B>, CallFault<QCall<B>>>) -> Result<(), NoMemory>
     requires ends { IfOk outcome (λ reply. reply.ends ≡ None) }
     requires never { IfFaultNotYet outcome (λ _. ⊥) }

@@ -1,4 +1,4 @@
-//! What a try of a step tells: its reply, or why it is not done yet.
+//! What a try of a step returns: its reply, or why it is not done yet.
 use sf_base::Items;
 
 /// The reply of a step, as records show it.

@@ -2,6 +2,7 @@ pub mod HoldingLemmas
 pub mod PictureLemmas
 pub mod RefusalLemmas
 pub mod LeavingLemmas
+pub mod FormLemmas
 pub mod DroppingLemmas
 pub mod EditingLemmas
 pub mod ShowingLemmas

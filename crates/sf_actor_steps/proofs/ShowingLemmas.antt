@@ -1,7 +1,6 @@
 -- What a step that edits transactions finds in the bindings, and which queues are there.
-use Rattle.std.proofs.Common.{◌≡◌, ◌≢◌, ℕ, true, List, [], get_or, Option, Some, None, refl, ap, ◌∙◌, subst}
+use Rattle.std.proofs.Common.{◌≡◌, ◌≢◌, ℕ, List, [], get_or, Option, Some, None, ap, ◌∙◌, subst}
 use Rattle.std.specs.Prelude.{option_to_list}
-use Rattle.std.specs.Option.{option_map}
 use Rattle.std.specs.List.{All}
 use Rattle.std.proofs.lemmas.List.{get_or-set_other}
 use Rattle.std.proofs.lemmas.List.Elements.{All-head}
@@ -14,15 +13,11 @@ use Rattle.sf_actor.specs.sf_txn.Transactions.{Contents, is_for, replaced_by, sh
 use Rattle.sf_actor.specs.declared.holding.Holding.{Holding}
 use Rattle.sf_actor.specs.declared.holding.Holding.TheVariants as holding
 use Rattle.sf_actor.specs.Desks.{DeskHome}
-use Rattle.sf_actor.specs.Names.{is_frame, name_in}
-use Rattle.sf_actor.specs.Holdings.{token_of}
 use Rattle.sf_actor.specs.Scripts.{op_of}
 use Rattle.sf_actor_steps.specs.Editing.{AreThere, HoldsShown, IsThere, TakesTxn}
 use Rattle.sf_actor_steps.specs.Forming.{Takes}
-use Rattle.sf_actor_steps.specs.Bindings.{holdings_of}
 use Rattle.sf_actor_steps.specs.declared.bindings.Bindings.{Bindings}
 use Rattle.sf_actor_steps.proofs.EditingLemmas.{All-find, shows_none}
-use Rattle.sf_actor_steps.proofs.HoldingLemmas.{name_in-held}
 
 -- the operation of a change shows no buffer
 pub plain_op : (o : Op) (changed : Change) (layer : LayerId) → o ≡ op_of changed → shows_of o layer ≡ []
@@ -38,17 +33,6 @@ replaced_there home buffers buffer replaced all found =
     All-head (IsThere home) replaced [] (subst (λ (o : Option (Buffer ReadLeaseOf)). All (IsThere home) (option_to_list o)) found (All-find (IsThere home) (is_for buffer.layer) buffers all))
 
 module _ {B : Type 0} where
-  -- a name that holds a frame which its queue showed
-  shown_held : (held : Option (Holding B)) → HoldsShown held → is_frame (option_map token_of held) ≡ true
-  shown_held None shown = absurd shown
-  shown_held (Some (holding.Lends lease)) shown = absurd shown
-  shown_held (Some (holding.Owes owing held)) shown = absurd shown
-  shown_held (Some (holding.Reads lease)) shown = refl
-  shown_held (Some (holding.Frees queue loose)) shown = absurd shown
-
-  pub frame_there : (bindings : Bindings B) (name : ℕ) → HoldsShown (get_or bindings.names name None) → is_frame (name_in (holdings_of bindings) name) ≡ true
-  frame_there bindings name shown = ap is_frame (name_in-held bindings name) ∙ shown_held (get_or bindings.names name None) shown
-
   pub frame_shown : (before taken : Bindings B) (name : ℕ) (lease : ReadLeaseOf) → Takes before taken name (holding.Reads lease) → HoldsShown (get_or before.names name None) → lease.frame ≢ 0
   frame_shown before taken name lease takes shown = subst HoldsShown takes.held_there shown
 

@@ -181,18 +181,3 @@ module _ {B : Type 0} where
           tries = (told, done.does);
           acts = acts_for actor is new.bindings after step_number came_to at attempts;
         }
-
-  -- no step is left
-  pub is_over : (table : TableId) (pictures : ℕ → Picture) (home : DeskHome) (old : Actor B) (before : DeskView B) (actor : ActorOf B) → slice_get old.script.steps (length old.replies.items) ≡ None → IsActor table old actor → Keeps pictures home actor before → Steps table pictures home old.bindings actor before old before stepped.Ended
-  is_over table pictures home old before actor none is keeps =
-      let over : next_step actor ≡ None = ap (λ (script : ActorScript). slice_get script.steps (length actor.trace)) is.script ∙ ap (slice_get old.script.steps) is.trace ∙ none in
-      record {
-        new = actor;
-        is = is;
-        keeps = keeps;
-        tries = (refl, refl, over);
-        acts = λ s next. absurd (none_some s (sym over ∙ next));
-      }
-    where
-      none_some : (s : Step) → None ≡ Some s → ⊥
-      none_some s e = cc

@@ -1,11 +1,10 @@
 -- What contracts see of an actor. Its trace is not in its memory: contracts speak of each trace that fits what it has.
-use Rattle.std.specs.Prelude.{◌≡◌, ℕ, ◌+◌, ◌≤◌, Bool, false, true, List, [], length, replicate, slice_get, Option, None, Some}
+use Rattle.std.specs.Prelude.{◌≡◌, ℕ, ◌+◌, ◌≤◌, false, List, [], length, replicate, None, Some}
 use Rattle.atomic_table.specs.Seated.{TableId}
 use Rattle.sf_base.specs.declared.ids.ActorId.{ActorId}
 use Rattle.sf_actor.specs.sf_picture.declared.picture.Picture.{Picture}
 use Rattle.sf_actor.specs.sf_script_scene.declared.step.ActorScript.{ActorScript}
 use Rattle.sf_actor.specs.sf_script_scene.declared.step.Step.{Step}
-use Rattle.sf_actor.specs.sf_script_scene.declared.step.Step.TheVariants as step
 use Rattle.sf_actor.specs.sf_turns.Counts.{stock_at}
 use Rattle.sf_actor.specs.sf_turns.Views.{StockView}
 use Rattle.sf_actor.specs.declared.tried.Stepped.{Stepped}
@@ -21,11 +20,6 @@ use Rattle.sf_actor_steps.specs.declared.actor.Actor.{Actor}
 use Rattle.sf_actor_steps.specs.declared.bindings.Bindings.{Bindings}
 use Rattle.sf_actor_steps.specs.declared.tried.Tried.{Tried}
 
--- whether there is a step and it sends a transaction
-abbrev pub sends : Option Step → Bool
-sends (Some (step.Apply _ _)) = true
-sends _ = false
-
 module _ {B : Type 0} where
   -- what an actor has in its bindings, with the numbers of the buffers that it may still open
   abbrev pub parts_of : Bindings B → HoldingsOf B
@@ -38,10 +32,6 @@ module _ {B : Type 0} where
     pub transactions : bindings.transactions ≡ replicate 65 None
     pub stock_whole : bindings.stock ≡ stock
     pub none_spare : bindings.spare ≡ None
-
-  -- whether the step that an actor tries next sends a transaction
-  abbrev pub sends_next : Actor B → Bool
-  sends_next actor = sends (slice_get actor.script.steps (length actor.replies.items))
 
   -- an actor that has done nothing
   abbrev pub new_actor : ActorScript → List ℕ → ActorOf B
@@ -85,7 +75,7 @@ module _ {B : Type 0} where
     pub came_to : Tried
     pub attempts : Attempts (refusal_of pictures (holdings_of was) next) pictures home was.by.0 step_number next was bindings before after came_to
 
-  -- what a try of its next step comes to: it keeps what it keeps, and tells what it did; its bindings were these before
+  -- what a try of its next step comes to: it keeps what it keeps, and reports what it did; its bindings were these before
   pub record Steps (table : TableId) (pictures : ℕ → Picture) (home : DeskHome) (was : Bindings B) (old : ActorOf B) (before : DeskView B)
       (actor : Actor B) (after : DeskView B) (stepped : Stepped) : Type 0 where
     pub new : ActorOf B

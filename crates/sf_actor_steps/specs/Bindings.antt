@@ -9,7 +9,7 @@ use Rattle.sf_actor.specs.Names.{Frame, Holdings, Lent, Owing, Token}
 use Rattle.sf_actor.specs.Holdings.{drawn_picture, plain_of}
 use Rattle.sf_actor_steps.specs.declared.bindings.Bindings.{Bindings}
 
--- what names and transaction numbers hold, as a trace tells it
+-- what names and transaction numbers hold, as a trace says
 abbrev pub holdings_of : {B : Type 0} → Bindings B → Holdings
 holdings_of bindings = plain_of (record { names = bindings.names; transactions = bindings.transactions; stock = [] })
 

@@ -1,5 +1,5 @@
 -- The calls of steps with their tokens: what a step takes out of its actor's bindings, and what it asks.
-use Rattle.std.specs.Prelude.{◌≡◌, ℕ, ◌≤◌, ◌<◌, ◌^◌, true, false, List, ◌∷◌, ◌++◌, get_or, option_to_list, Option, Some, None, unwrap_or}
+use Rattle.std.specs.Prelude.{◌≡◌, ℕ, ◌≤◌, ◌<◌, ◌^◌, Bool, true, false, List, ◌∷◌, ◌++◌, get_or, option_to_list, Option, Some, None, unwrap_or}
 use Rattle.std.specs.List.{All}
 use Rattle.atomic_table.specs.Seated.{TableId}
 use Rattle.std.specs.Option.{option_map}
@@ -40,6 +40,21 @@ abbrev pub cancel_fence : Work → Fence → Fence → Fence
 cancel_fence (work.Fresh turn) named own = merged named own
 cancel_fence (work.Drawn inside pixels) named own = named
 
+-- the step that dequeues: it waits where no slot is free, or does not
+abbrev pub dequeue_step : Bool → ℕ → ℕ → Option (ℕ × ℕ) → Step
+dequeue_step true queue name size = step.DequeueWait queue name size
+dequeue_step false queue name size = step.Dequeue queue name size
+
+-- the step that attaches a loose buffer: as a frame, or as a lent buffer
+abbrev pub attach_step : Bool → ℕ → ℕ → ℕ → Step
+attach_step true queue from to = step.CAttach queue from to
+attach_step false queue from to = step.PAttach queue from to
+
+-- the step that detaches a buffer: a frame's, or a lent one
+abbrev pub detach_step : Bool → ℕ → ℕ → Step
+detach_step true from to = step.CDetach from to
+detach_step false from to = step.PDetach from to
+
 abbrev pub IsOfTable : TableId → Option PermitView → Type 0
 IsOfTable table None = Unit {0}
 IsOfTable table (Some permit) = permit.table ≡ table
@@ -56,6 +71,11 @@ module _ {B : Type 0} where
   -- one that brings a loose buffer, which was last in this queue
   abbrev pub joining : QueueId → ℕ → ℕ → QueueId → QCall B → Asking B
   joining queue free lease last asked = record { queue = queue; call = asked; homes = record { lent = lease; frame = lease; free = free; last = last; held = no_buffer } }
+
+  -- the call that attaches a loose buffer: as a frame, or as a lent buffer
+  abbrev pub attach_call : Bool → LooseOf → QCall B
+  attach_call true loose = call.AttachRead loose
+  attach_call false loose = call.Attach loose
 
   -- what a name holds is taken out
   pub record Takes (before taken : Bindings B) (name : ℕ) (held : Holding B) : Type 0 where

@@ -9,11 +9,23 @@ use Rattle.sf_actor.specs.sf_script_scene.declared.step.Step.{Step}
 use Rattle.sf_actor.specs.declared.holding.Holding.{Holding}
 use Rattle.sf_actor.specs.declared.holding.Holding.TheVariants as holding
 use Rattle.sf_actor.specs.Desks.{ChangesTimes, DeskHome, DeskView}
+use Rattle.sf_actor.specs.Names.{Token, is_frame, is_lent}
+use Rattle.sf_actor.specs.Points.{frame_fence, requested_fence}
 use Rattle.sf_actor.specs.Tries.{Sees}
 use Rattle.sf_actor_steps.specs.Doing.{MakesCall}
 use Rattle.sf_actor_steps.specs.declared.bindings.Bindings.{Bindings}
 use Rattle.sf_actor_steps.specs.declared.tried.Tried.{Tried}
 use Rattle.sf_actor_steps.specs.declared.tried.Tried.TheVariants as tried
+
+-- a name holds what is to leave its queue: a frame, or a lent buffer
+abbrev pub holds_leaving : Bool → Option Token → Bool
+holds_leaving true held = is_frame held
+holds_leaving false held = is_lent held
+
+-- what it has to wait for before it leaves
+abbrev pub leaving_fence : Bool → Option Token → Option Fence
+leaving_fence true held = frame_fence held
+leaving_fence false held = requested_fence held
 
 -- a call was done
 abbrev pub was_ok : Tried → Bool

@@ -52,10 +52,10 @@ impl<B: TableName> Actor<B> {
     ghost use Rattle.std.specs.Prelude.{◌≡◌, false, true, nat_le, length, IfOk, IfErr, IsErr};
     ghost use Rattle.sf_actor.specs.Scripts.{picture_at};
     ghost use Rattle.sf_actor.specs.Tries.{ActorOf, Keeps};
-    ghost use Rattle.sf_actor_steps.specs.Actors.{IsActor, IsKept, Steps, new_actor, sends_next};
+    ghost use Rattle.sf_actor_steps.specs.Actors.{IsActor, IsKept, Steps, new_actor};
     ghost use Rattle.sf_actor_steps.specs.Playable.{MayPlay};
 
-    /// An actor that has done nothing. Want of memory hands script and stock back.
+    /// An actor that has done nothing. Out of memory hands script and stock back.
     pub fn new(
         alloc: Global,
         script: ActorScript,
@@ -95,14 +95,6 @@ impl<B: TableName> Actor<B> {
         ensures { result ≡ nat_le (length self.now.script.steps) (length self.now.replies.items) }
     {
         self.replies.len() >= self.script.steps.len()
-    }
-
-    /// Whether the step that is tried next sends a transaction.
-    pub fn sends_next(&self) -> bool
-        ensures { result ≡ sends_next self.now }
-    {
-        let next = self.script.steps.as_slice().get(self.replies.len());
-        matches!(next, Some(Step::Apply(_, _)))
     }
 
     /// Tries the next step. An actor that found no memory does no more steps.

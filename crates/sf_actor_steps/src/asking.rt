@@ -3,9 +3,9 @@ ghost use Rattle.std.specs.Prelude.{◌≡◌, IfOk};
 ghost use Rattle.sf_base.specs.Fences.{merged};
 ghost use Rattle.sf_actor.specs.sf_surface.declared.call.QCall.TheVariants as call;
 ghost use Rattle.sf_actor.specs.Scripts.{crop_of, fence_of};
-ghost use Rattle.sf_actor_steps.specs.Forming.{ArePoints, IsCrop, cancel_fence, joining, moving, named};
+ghost use Rattle.sf_actor_steps.specs.Forming.{ArePoints, IsCrop, attach_call, cancel_fence, joining, moving, named};
 
-use sf_actor::{Held, Picture, Points, QCall, ReadLease, TableName, Work, WriteLease};
+use sf_actor::{Held, Loose, Picture, Points, QCall, ReadLease, TableName, Work, WriteLease};
 use sf_base::{Fence, NoMemory, QueueId, Rect, TimelineId};
 use std::alloc::Global;
 
@@ -90,6 +90,17 @@ pub fn joining<B: TableName>(
             last,
             held: NO_BUFFER,
         },
+    }
+}
+
+/// The call that attaches a loose buffer: as a frame of the consumer's own, or as a lent buffer.
+pub fn attach_call<B: TableName>(loose: Loose<B>, reads: bool) -> QCall<B>
+    ensures { result ≡ attach_call reads loose }
+{
+    if reads {
+        QCall::AttachRead(loose)
+    } else {
+        QCall::Attach(loose)
     }
 }
 

@@ -25,7 +25,7 @@ impl<B: TableName> Bindings<B> {
     ghost use Rattle.std.specs.Prelude.{◌≡◌, IfOk, IfErr};
     ghost use Rattle.sf_actor_steps.specs.Actors.{HoldNothing};
 
-    /// Bindings that hold nothing but a stock. Want of memory hands the stock back.
+    /// Bindings that hold nothing but a stock. Out of memory hands the stock back.
     pub fn new(
         alloc: Global,
         by: ActorId,

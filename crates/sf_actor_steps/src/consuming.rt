@@ -1,5 +1,5 @@
-//! The steps of a consumer: they acquire, release and attach buffers, and give a queue up.
-use crate::asking::{fence_of, joining, named, release};
+//! The steps of a consumer: they acquire and release buffers, and give a queue up.
+use crate::asking::{fence_of, named, release};
 use crate::bindings::Bindings;
 use crate::tried::Tried;
 use sf_actor::{Desk, Points, QCall, TableName, TokensOf};
@@ -10,7 +10,7 @@ impl<B: TableName> Bindings<B> {
     ghost use Rattle.sf_actor.specs.sf_picture.declared.picture.Picture.{Picture};
     ghost use Rattle.sf_actor.specs.sf_script_scene.declared.step.Step.TheVariants as step;
     ghost use Rattle.sf_actor.specs.Desks.{has_queue};
-    ghost use Rattle.sf_actor.specs.Names.{is_apart, is_frame, name_in};
+    ghost use Rattle.sf_actor.specs.Names.{is_frame, name_in};
     ghost use Rattle.sf_actor_steps.specs.Doing.{HasQueueOf, MakesCall};
     ghost use Rattle.sf_actor_steps.specs.Forming.{ArePoints};
     ghost use Rattle.sf_actor_steps.specs.Bindings.{holdings_of};
@@ -94,29 +94,5 @@ impl<B: TableName> Bindings<B> {
         let fence = fence_of(self.alloc, points)?;
         let asking = release(self.alloc, name, lease, fence)?;
         self.ask(desk, step_number, asking)
-    }
-
-    /// Puts a loose buffer into a queue, held by its consumer.
-    pub fn attach_read<D: Desk<TokensOf<B>>>(
-        &mut self,
-        desk: &mut D,
-        step_number: u32,
-        queue: u32,
-        from: u32,
-        to: u32,
-    ) -> Result<Tried, NoMemory>
-        requires served { (D.home desk.old).serves self.old.by.0 ≡ true }
-        requires there { has_queue (D.home desk.old) queue ≡ true }
-        requires apart { is_apart (name_in (holdings_of self.old) from) ≡ true }
-        ensures makes { IfOk result (λ tried. (pictures : ℕ → Picture) → MakesCall pictures
-            (D.home desk.old) self.old.by.0 step_number (step.CAttach queue from to) self.old self.new (D.view desk.old) (D.view desk.new) tried) }
-        ensures home { D.home desk.new ≡ D.home desk.old }
-    {
-        let (last, loose) = self.take_free(from);
-        self.ask(
-            desk,
-            step_number,
-            joining(QueueId(queue), from, to, last, QCall::AttachRead(loose)),
-        )
     }
 }

@@ -4,7 +4,7 @@ ghost use Rattle.std.specs.Prelude.{◌≡◌};
 ghost use Rattle.std.specs.Option.{option_copied};
 ghost use Rattle.sf_actor_steps.specs.Leaving.{Looks, was_ok};
 
-use crate::asking::{moving, named};
+use crate::asking::{Asking, moving, named};
 use crate::bindings::Bindings;
 use crate::drawing::look;
 use crate::refusal::BAD_VALUE;
@@ -38,13 +38,15 @@ impl<B: TableName> Bindings<B> {
     ghost use Rattle.std.specs.Option.{option_copied};
     ghost use Rattle.sf_actor.specs.sf_picture.declared.picture.Picture.{Picture};
     ghost use Rattle.sf_actor.specs.sf_script_scene.declared.step.Step.TheVariants as step;
-    ghost use Rattle.sf_actor.specs.Desks.{has_queue};
-    ghost use Rattle.sf_actor.specs.Names.{is_frame, is_lent, name_in};
+    ghost use Rattle.sf_actor.specs.sf_surface.Marks.{PermitFits};
+    ghost use Rattle.sf_actor.specs.Desks.{DeskHome, has_queue};
+    ghost use Rattle.sf_actor.specs.Names.{name_in};
     ghost use Rattle.sf_actor.specs.Points.{frame_fence, requested_fence};
     ghost use Rattle.sf_actor_steps.specs.Calling.{with_held};
     ghost use Rattle.sf_actor_steps.specs.Doing.{HasQueueOf, MakesCall};
+    ghost use Rattle.sf_actor_steps.specs.Forming.{FormsCall, detach_step};
     ghost use Rattle.sf_actor_steps.specs.Bindings.{holdings_of};
-    ghost use Rattle.sf_actor_steps.specs.Leaving.{Disconnects, TriesToLeave, holds_lent, let_go_of, without_lent};
+    ghost use Rattle.sf_actor_steps.specs.Leaving.{Disconnects, TriesToLeave, holds_leaving, holds_lent, leaving_fence, let_go_of, without_lent};
 
     /// Drops what a name holds, if it is a lent buffer of a queue.
     fn drop_if_lent(&mut self, name: u32, queue: u32)
@@ -123,95 +125,58 @@ impl<B: TableName> Bindings<B> {
         }
     }
 
-    /// Takes a lent buffer out of its queue, once its fence is signalled: a loose buffer has none.
+    /// What a buffer has to wait for before it leaves its queue: a frame's, or a lent one.
+    fn leaving_fence(&self, name: u32, reads: bool) -> Option<&Fence>
+        ensures { option_copied result ≡ leaving_fence reads (name_in (holdings_of self.now) name) }
+    {
+        if reads {
+            self.frame_fence(name)
+        } else {
+            self.requested_fence(name)
+        }
+    }
+
+    /// The call that takes a buffer out of its queue: a frame's, or a lent one.
+    fn leaving_call(&mut self, from: u32, to: u32, reads: bool) -> Asking<B>
+        requires held { holds_leaving reads (name_in (holdings_of self.old) from) ≡ true }
+        ensures forms { (pictures : ℕ → Picture) → FormsCall pictures (detach_step reads from to) self.old self.new result }
+        ensures there { (home : DeskHome) → HasQueueOf home (name_in (holdings_of self.old) from) → has_queue home result.queue.0 ≡ true }
+        ensures permit { PermitFits B.table result.call }
+        ensures by { self.new.by ≡ self.old.by }
+    {
+        if reads {
+            let lease = self.take_frame(from);
+            let (queue, held) = (lease.queue, lease.held);
+            moving(queue, from, to, held, QCall::DetachRead(lease))
+        } else {
+            let lease = self.take_lent(from);
+            let (queue, held) = (lease.queue, lease.held);
+            moving(queue, from, to, held, QCall::Detach(lease))
+        }
+    }
+
+    /// Takes a buffer out of its queue, a frame's or a lent one, once its fence is signalled: a loose
+    /// buffer has none.
     pub fn detach<D: Desk<TokensOf<B>>>(
         &mut self,
         desk: &mut D,
         step_number: u32,
         from: u32,
         to: u32,
+        reads: bool,
     ) -> Result<Tried, NoMemory>
         requires served { (D.home desk.old).serves self.old.by.0 ≡ true }
-        requires lent { is_lent (name_in (holdings_of self.old) from) ≡ true }
+        requires held { holds_leaving reads (name_in (holdings_of self.old) from) ≡ true }
         requires there { HasQueueOf (D.home desk.old) (name_in (holdings_of self.old) from) }
         ensures tries { IfOk result (λ tried. (pictures : ℕ → Picture) → TriesToLeave pictures
-            (D.home desk.old) self.old.by.0 step_number (step.PDetach from to) (requested_fence (name_in (holdings_of self.old) from)) self.old self.new
+            (D.home desk.old) self.old.by.0 step_number (detach_step reads from to) (leaving_fence reads (name_in (holdings_of self.old) from)) self.old self.new
             (D.view desk.old) (D.view desk.new) tried) }
         ensures home { D.home desk.new ≡ D.home desk.old }
     {
-        if is_open(desk, self.requested_fence(from)) {
+        if is_open(desk, self.leaving_fence(from, reads)) {
             return Ok(Tried::Own(BAD_VALUE));
         }
-        self.detach_now(desk, step_number, from, to)
-    }
-
-    /// Takes a lent buffer out of its queue.
-    fn detach_now<D: Desk<TokensOf<B>>>(
-        &mut self,
-        desk: &mut D,
-        step_number: u32,
-        from: u32,
-        to: u32,
-    ) -> Result<Tried, NoMemory>
-        requires served { (D.home desk.old).serves self.old.by.0 ≡ true }
-        requires lent { is_lent (name_in (holdings_of self.old) from) ≡ true }
-        requires there { HasQueueOf (D.home desk.old) (name_in (holdings_of self.old) from) }
-        ensures makes { IfOk result (λ tried. (pictures : ℕ → Picture) → MakesCall pictures
-            (D.home desk.old) self.old.by.0 step_number (step.PDetach from to) self.old self.new (D.view desk.old) (D.view desk.new) tried) }
-        ensures home { D.home desk.new ≡ D.home desk.old }
-    {
-        let lease = self.take_lent(from);
-        let (queue, held) = (lease.queue, lease.held);
-        self.ask(
-            desk,
-            step_number,
-            moving(queue, from, to, held, QCall::Detach(lease)),
-        )
-    }
-
-    /// Takes a frame's buffer out of its queue, once its fence is signalled: a loose buffer has none.
-    pub fn detach_read<D: Desk<TokensOf<B>>>(
-        &mut self,
-        desk: &mut D,
-        step_number: u32,
-        from: u32,
-        to: u32,
-    ) -> Result<Tried, NoMemory>
-        requires served { (D.home desk.old).serves self.old.by.0 ≡ true }
-        requires frame { is_frame (name_in (holdings_of self.old) from) ≡ true }
-        requires there { HasQueueOf (D.home desk.old) (name_in (holdings_of self.old) from) }
-        ensures tries { IfOk result (λ tried. (pictures : ℕ → Picture) → TriesToLeave pictures
-            (D.home desk.old) self.old.by.0 step_number (step.CDetach from to) (frame_fence (name_in (holdings_of self.old) from)) self.old self.new
-            (D.view desk.old) (D.view desk.new) tried) }
-        ensures home { D.home desk.new ≡ D.home desk.old }
-    {
-        if is_open(desk, self.frame_fence(from)) {
-            return Ok(Tried::Own(BAD_VALUE));
-        }
-        self.detach_read_now(desk, step_number, from, to)
-    }
-
-    /// Takes a frame's buffer out of its queue.
-    fn detach_read_now<D: Desk<TokensOf<B>>>(
-        &mut self,
-        desk: &mut D,
-        step_number: u32,
-        from: u32,
-        to: u32,
-    ) -> Result<Tried, NoMemory>
-        requires served { (D.home desk.old).serves self.old.by.0 ≡ true }
-        requires frame { is_frame (name_in (holdings_of self.old) from) ≡ true }
-        requires there { HasQueueOf (D.home desk.old) (name_in (holdings_of self.old) from) }
-        ensures makes { IfOk result (λ tried. (pictures : ℕ → Picture) → MakesCall pictures
-            (D.home desk.old) self.old.by.0 step_number (step.CDetach from to) self.old self.new (D.view desk.old) (D.view desk.new) tried) }
-        ensures home { D.home desk.new ≡ D.home desk.old }
-    {
-        let lease = self.take_frame(from);
-        let (queue, held) = (lease.queue, lease.held);
-        self.ask(
-            desk,
-            step_number,
-            moving(queue, from, to, held, QCall::DetachRead(lease)),
-        )
+        let asking = self.leaving_call(from, to, reads);
+        self.ask(desk, step_number, asking)
     }
 }

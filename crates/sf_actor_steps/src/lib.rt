@@ -1,10 +1,11 @@
-//! An actor's steps, of all forms of a script, over any desk: what the actor has in its bindings, its
-//! own tests, what each form asks and does, and the try of its next step. A try keeps what the actor
-//! keeps, and tells what it did, or why it did nothing.
+//! An actor's steps, of all forms of a script, over any desk: what the actor has in its bindings,
+//! its own tests, what each form asks and does, and the try of its next step. A try keeps what the
+//! actor keeps, and reports what it did, or why it did nothing.
 #![tactic(auto)]
 
 mod actor;
 mod asking;
+mod attaching;
 mod bindings;
 mod calling;
 mod consuming;

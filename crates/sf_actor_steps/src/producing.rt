@@ -1,5 +1,5 @@
-//! The steps of a producer: they connect, dequeue, request, queue, cancel and attach buffers.
-use crate::asking::{cancel, fence_of, joining, moving, named, queueing};
+//! The steps of a producer: they connect, dequeue, request, queue and cancel buffers.
+use crate::asking::{cancel, fence_of, moving, named, queueing};
 use crate::bindings::Bindings;
 use crate::tried::Tried;
 use sf_actor::{Desk, Picture, Points, QCall, TableName, TokensOf};
@@ -10,9 +10,9 @@ impl<B: TableName> Bindings<B> {
     ghost use Rattle.sf_actor.specs.sf_picture.declared.picture.Picture.{Picture};
     ghost use Rattle.sf_actor.specs.sf_script_scene.declared.step.Step.TheVariants as step;
     ghost use Rattle.sf_actor.specs.Desks.{has_queue};
-    ghost use Rattle.sf_actor.specs.Names.{is_apart, is_lent, name_in};
+    ghost use Rattle.sf_actor.specs.Names.{is_lent, name_in};
     ghost use Rattle.sf_actor_steps.specs.Doing.{HasQueueOf, MakesCall};
-    ghost use Rattle.sf_actor_steps.specs.Forming.{AreOfTable, ArePoints, IsCrop, permits_of};
+    ghost use Rattle.sf_actor_steps.specs.Forming.{AreOfTable, ArePoints, IsCrop, dequeue_step, permits_of};
     ghost use Rattle.sf_actor_steps.specs.Bindings.{holdings_of};
 
     /// Becomes a queue's producer.
@@ -73,7 +73,8 @@ impl<B: TableName> Bindings<B> {
         )
     }
 
-    /// Lets a name hold a buffer of a queue, of this size where one is asked.
+    /// Lets a name hold a buffer of a queue, of this size where one is asked. It may wait until there
+    /// is one, or not.
     pub fn dequeue<D: Desk<TokensOf<B>>>(
         &mut self,
         desk: &mut D,
@@ -81,13 +82,14 @@ impl<B: TableName> Bindings<B> {
         queue: u32,
         name: u32,
         size: Option<(u32, u32)>,
+        wait: bool,
     ) -> Result<Tried, NoMemory>
         requires served { (D.home desk.old).serves self.old.by.0 ≡ true }
         requires there { has_queue (D.home desk.old) queue ≡ true }
         requires left { 0 < length (permits_of self.old) }
         requires table { AreOfTable B.table self.old }
         ensures makes { IfOk result (λ tried. (pictures : ℕ → Picture) → MakesCall pictures
-            (D.home desk.old) self.old.by.0 step_number (step.Dequeue queue name size) self.old self.new (D.view desk.old) (D.view desk.new) tried) }
+            (D.home desk.old) self.old.by.0 step_number (dequeue_step wait queue name size) self.old self.new (D.view desk.old) (D.view desk.new) tried) }
         ensures home { D.home desk.new ≡ D.home desk.old }
     {
         let (width, height) = size.unwrap_or((0, 0));
@@ -95,35 +97,7 @@ impl<B: TableName> Bindings<B> {
         let call = QCall::Dequeue {
             width,
             height,
-            wait: false,
-            permit,
-        };
-        self.ask(desk, step_number, named(QueueId(queue), name, call))
-    }
-
-    /// Lets a name hold a buffer of a queue as soon as there is one.
-    pub fn dequeue_wait<D: Desk<TokensOf<B>>>(
-        &mut self,
-        desk: &mut D,
-        step_number: u32,
-        queue: u32,
-        name: u32,
-        size: Option<(u32, u32)>,
-    ) -> Result<Tried, NoMemory>
-        requires served { (D.home desk.old).serves self.old.by.0 ≡ true }
-        requires there { has_queue (D.home desk.old) queue ≡ true }
-        requires left { 0 < length (permits_of self.old) }
-        requires table { AreOfTable B.table self.old }
-        ensures makes { IfOk result (λ tried. (pictures : ℕ → Picture) → MakesCall pictures
-            (D.home desk.old) self.old.by.0 step_number (step.DequeueWait queue name size) self.old self.new (D.view desk.old) (D.view desk.new) tried) }
-        ensures home { D.home desk.new ≡ D.home desk.old }
-    {
-        let (width, height) = size.unwrap_or((0, 0));
-        let permit = self.take_permit()?;
-        let call = QCall::Dequeue {
-            width,
-            height,
-            wait: true,
+            wait,
             permit,
         };
         self.ask(desk, step_number, named(QueueId(queue), name, call))
@@ -172,30 +146,6 @@ impl<B: TableName> Bindings<B> {
         let fence = fence_of(self.alloc, points)?;
         let asking = cancel(self.alloc, name, lease, fence)?;
         self.ask(desk, step_number, asking)
-    }
-
-    /// Puts a loose buffer into a queue, lent to its producer.
-    pub fn attach<D: Desk<TokensOf<B>>>(
-        &mut self,
-        desk: &mut D,
-        step_number: u32,
-        queue: u32,
-        from: u32,
-        to: u32,
-    ) -> Result<Tried, NoMemory>
-        requires served { (D.home desk.old).serves self.old.by.0 ≡ true }
-        requires there { has_queue (D.home desk.old) queue ≡ true }
-        requires apart { is_apart (name_in (holdings_of self.old) from) ≡ true }
-        ensures makes { IfOk result (λ tried. (pictures : ℕ → Picture) → MakesCall pictures
-            (D.home desk.old) self.old.by.0 step_number (step.PAttach queue from to) self.old self.new (D.view desk.old) (D.view desk.new) tried) }
-        ensures home { D.home desk.new ≡ D.home desk.old }
-    {
-        let (last, loose) = self.take_free(from);
-        self.ask(
-            desk,
-            step_number,
-            joining(QueueId(queue), from, to, last, QCall::Attach(loose)),
-        )
     }
 
     /// Queues the buffer that a name holds, as a frame of this picture.

@@ -56,20 +56,12 @@ impl<B: TableName> Bindings<B> {
             Step::Disconnect(queue) => self.disconnect(desk, step_number, *queue),
             Step::MaxDequeued(queue, n) => self.limit_dequeued(desk, step_number, *queue, *n),
             Step::Async(queue, on) => self.set_async(desk, step_number, *queue, *on),
-            Step::Dequeue(queue, name, size) => self.dequeue(
-                desk,
-                step_number,
-                *queue,
-                *name,
-                *size,
-            ),
-            Step::DequeueWait(queue, name, size) => self.dequeue_wait(
-                desk,
-                step_number,
-                *queue,
-                *name,
-                *size,
-            ),
+            Step::Dequeue(queue, name, size) => {
+                self.dequeue(desk, step_number, *queue, *name, *size, false)
+            }
+            Step::DequeueWait(queue, name, size) => {
+                self.dequeue(desk, step_number, *queue, *name, *size, true)
+            }
             Step::Request(name) => self.request(desk, step_number, *name),
             Step::Draw(name, picture) => self.draw(desk, *name, picture_of(pictures, *picture)),
             Step::Queue(name, picture, time, crop, points) => {
@@ -77,20 +69,18 @@ impl<B: TableName> Bindings<B> {
                 self.queue(desk, step_number, *name, picture, *time, *crop, points)
             }
             Step::Cancel(name, points) => self.cancel(desk, step_number, *name, points),
-            Step::PDetach(from, to) => self.detach(desk, step_number, *from, *to),
-            Step::PAttach(queue, from, to) => self.attach(desk, step_number, *queue, *from, *to),
+            Step::PDetach(from, to) => self.detach(desk, step_number, *from, *to, false),
+            Step::PAttach(queue, from, to) => {
+                self.attach(desk, step_number, *queue, *from, *to, false)
+            }
             Step::MaxAcquired(queue, n) => self.limit_acquired(desk, step_number, *queue, *n),
             Step::Abandon(queue) => self.abandon(desk, step_number, *queue),
             Step::Acquire(queue, name, at) => self.acquire(desk, step_number, *queue, *name, *at),
             Step::Release(name, points) => self.release(desk, step_number, *name, points),
-            Step::CDetach(from, to) => self.detach_read(desk, step_number, *from, *to),
-            Step::CAttach(queue, from, to) => self.attach_read(
-                desk,
-                step_number,
-                *queue,
-                *from,
-                *to,
-            ),
+            Step::CDetach(from, to) => self.detach(desk, step_number, *from, *to, true),
+            Step::CAttach(queue, from, to) => {
+                self.attach(desk, step_number, *queue, *from, *to, true)
+            }
             Step::Signal(timeline, value) => Ok(self.signal(desk, *timeline, *value)),
             Step::Wait(timeline, value) => Ok(self.wait(desk, *timeline, *value)),
             Step::Tx(number) => Ok(self.begin(*number)),

@@ -57,7 +57,7 @@ impl<T: Drop> Table<T> {
         }
     }
 
-    /// Lets a number hold this, in place of what it held.
+    /// Lets a number hold this, instead of what it held.
     pub fn put(&mut self, number: u32, value: T)
         ensures { self.new ≡ slice_set self.old number (Some value) }
     {

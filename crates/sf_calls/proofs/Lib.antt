@@ -1,4 +1,3 @@
 pub mod Histories
 pub mod Keeps
 pub mod CallSteps
-pub mod Taken

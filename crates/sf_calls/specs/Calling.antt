@@ -1,4 +1,4 @@
--- What a call under the lock tells its caller.
+-- What a call under the lock shows its caller.
 use Rattle.std.specs.Prelude.{◌≡◌, ℕ, ◌+◌, List, ◌∷◌, Result, Ok, Err}
 use Rattle.sf_calls.specs.declared.object.Entry.{Entry}
 use Rattle.sf_calls.specs.declared.object.Answer.{Answer}
@@ -35,7 +35,7 @@ module _ {D R : Type 0} where
   IfFaultNotYet (Err (NotYet c)) P = P c
   IfFaultNotYet (Err (NoMemory c)) P = Unit {0}
 
-  -- it holds of the call that comes back, where memory was wanting
+  -- it holds of the call that comes back, where memory ran out
   abbrev pub IfFaultNoMemory : Result R (CallFault D) → (D → Type 0) → Type 0
   IfFaultNoMemory (Ok r) P = Unit {0}
   IfFaultNoMemory (Err (NotYet c)) P = Unit {0}

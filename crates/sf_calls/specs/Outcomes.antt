@@ -15,7 +15,7 @@ module _ {C R : Type 0} where
   IfNotYet (NotYet c) P = P c
   IfNotYet (NoMemory c) P = Unit {0}
 
-  -- it holds of the call that comes back, where memory was wanting
+  -- it holds of the call that comes back, where memory ran out
   abbrev pub IfNoMemory : Outcome C R → (C → Type 0) → Type 0
   IfNoMemory (Done r) P = Unit {0}
   IfNoMemory (NotYet c) P = Unit {0}

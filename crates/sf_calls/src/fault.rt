@@ -5,6 +5,6 @@
 pub enum CallFault<C> {
     /// The object answered under the lock that it is not time for the call yet.
     NotYet(C),
-    /// Want of memory.
+    /// Out of memory.
     NoMemory(C),
 }

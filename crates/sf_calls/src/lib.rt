@@ -1,8 +1,8 @@
 //! A lock over an object whose callers know one legal history of its calls. The queues and the
 //! arrivals of transactions are such objects: threads call them while a frame is made, and what
-//! each thread is told of the others' calls stands in one history that a single thread could have
-//! made. A call waits for the mutex, draws a ticket, applies itself to the object once the ticket is
-//! served, and passes the lock on.
+//! each thread learns of the others' calls stands in one history that a single thread could have
+//! made. A call waits for the mutex, draws a ticket, applies itself to the object once the ticket
+//! is served, and passes the lock on.
 #![tactic(auto)]
 
 mod fault;

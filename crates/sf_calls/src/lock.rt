@@ -43,7 +43,7 @@ impl<O: Object> Model for CallLock<O> {
 
 impl<O: Object> CallLock<O> {
     /// The object under a lock, and the first pass, for the caller `by`, which knows the object's
-    /// history. Want of memory hands the object back.
+    /// history. Out of memory hands the object back.
     pub fn open(alloc: Global, object: O, by: u32) -> Result<(CallLock<O>, Pass<O>), (NoMemory, O)>
         ensures ok { IfOk result (λ opened. opened.1 ≡ first_pass opened.0 by (O.mark object) (O.history object)) }
         ensures err { IfErr result (λ refused. refused.1 ≡ object) }
@@ -68,7 +68,7 @@ impl<O: Object> CallLock<O> {
     }
 
     /// The object out of the lock, by the first pass once it took in every pass that it gave.
-    /// Its history is what that pass knows. `Err` is want of memory and hands both back; this
+    /// Its history is what that pass knows. `Err` is out of memory and hands both back; this
     /// lock needs none here, so it never comes.
     pub fn close(self, last: Pass<O>) -> Result<O, (NoMemory, CallLock<O>, Pass<O>)>
         requires own { last.table ≡ self }

@@ -31,7 +31,7 @@ pub enum Outcome<C, R> {
     Done(R),
     /// It is not time for the call yet. Nothing changed, and the call comes back.
     NotYet(C),
-    /// Want of memory. Nothing changed, and the call comes back.
+    /// Out of memory. Nothing changed, and the call comes back.
     NoMemory(C),
 }
 
@@ -65,7 +65,7 @@ pub trait Object: Sized {
     // What the object of one thread answers to a caller's call after a history.
     ghost answers: { Self.Mark → List (Entry Self.PlainCall Self.PlainReply) → ℕ → Self.PlainCall → Answer Self.PlainReply → Type 0 };
 
-    /// Tells that each reply in the history is what the object of one thread answers after the
+    /// States that each reply in the history is what the object of one thread answers after the
     /// calls before it. It does nothing: an object keeps this of itself.
     fn legal(&self)
         ensures { IsLegal (answers (mark self.now)) (history self.now) };

@@ -65,7 +65,7 @@ impl<O: Object> Pass<O> {
 
     /// Waits for its turn under the lock, and applies the call. The reply, after which the call is
     /// the newest in the history that this pass knows. `NotYet` where the object answered so in
-    /// this turn: the pass then knows the history that it found. `NoMemory` is want of memory, and
+    /// this turn: the pass then knows the history that it found. `NoMemory` is out of memory, and
     /// leaves the pass and the object as they were. Either fault hands the call back and leaves
     /// no entry in the history. Nothing of the pass changes but what it knows of the history and
     /// its number of turns.

@@ -1,7 +1,7 @@
-//! What the words of the lock, the object's place and the passes keep between any two atomic
-//! steps, and what each kind of step tells the caller that makes it. Nothing here has code that
-//! runs. The word 0 is the next ticket, the word 1 the ticket that is served, and the word 2 is
-//! written by the step that names a new caller; the one slot has the object.
+//! What the words of the lock, the object's place and the passes keep between any two atomic steps,
+//! and what each kind of step shows the caller that makes it. Nothing here has code that runs. The
+//! word 0 is the next ticket, the word 1 the ticket that is served, and the word 2 is written by
+//! the step that names a new caller; the one slot has the object.
 use crate::object::{Entry, Object};
 use atomic_table::{Join, Play, Split, TableRule};
 use std::collections::LinkedList;
@@ -82,7 +82,7 @@ impl<O: Object> Play<Option<O>, Knows<O::PlainCall, O::PlainReply, O::Mark>> for
     ghost then = { PassesOn O.history };
 }
 
-/// Gives the object back unchanged and serves the next ticket, after want of memory.
+/// Gives the object back unchanged and serves the next ticket, after running out of memory.
 pub struct GiveUp;
 
 impl<O, C, R, M> Play<Option<O>, Knows<C, R, M>> for GiveUp {
@@ -100,7 +100,7 @@ impl<O, C, R, M> Play<Option<O>, Knows<C, R, M>> for NameCaller {
     ghost then = { Asks };
 }
 
-/// A load that tells the first pass what it knows since it took another in.
+/// A load that shows the first pass what it knows since it took another in.
 pub struct Recall;
 
 impl<O, C, R, M> Play<Option<O>, Knows<C, R, M>> for Recall {

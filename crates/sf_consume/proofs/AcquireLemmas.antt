@@ -59,9 +59,3 @@ due_is expected (x ∷ y ∷ rest) = elim (cases_Bool (is_some x.time && has_jus
       rw (met, add-one) (sym (due_behind expected (plain_item y) (map plain_item rest) came))
   | inr unmet ↦ rw unmet refl
 ]
-
-pub has_items : {R : Type 0} (items : List (Item R)) (b : Bool) → (b ≡ true → 0 < length items) → (0 < length items → b ≡ true) → b ≡ not (is_none (slice_get (map plain_item items) 0))
-has_items [] true there here = absurd (omega (arith, there refl))
-has_items [] false there here = refl
-has_items (x ∷ rest) true there here = refl
-has_items (x ∷ rest) false there here = here (omega arith)

@@ -94,7 +94,7 @@ pub fn lent_refusal<R: Drop>(
     found.err()
 }
 
-/// Tells the producer which buffer is in a slot that is lent to it, and marks it as requested.
+/// Shows the producer which buffer is in a slot that is lent to it, and marks it as requested.
 ///
 /// NoInit on an abandoned queue, and to another than the connected producer; BadValue where the slot
 /// is not lent with this buffer.
@@ -177,7 +177,7 @@ pub fn detach<R: Drop>(
     }
 }
 
-/// Gives back a lent buffer that is known not to be refused, as `lent_refusal` tells. It does what
+/// Gives back a lent buffer that is known not to be refused, as `lent_refusal` says. It does what
 /// `cancel` does.
 pub fn cancel_allowed<R: Drop>(
     q: &mut Slots<R>,
@@ -198,7 +198,7 @@ pub fn cancel_allowed<R: Drop>(
     }
 }
 
-/// Takes out a lent buffer that is known not to be refused, as `lent_refusal` tells. It does what
+/// Takes out a lent buffer that is known not to be refused, as `lent_refusal` says. It does what
 /// `detach` does.
 pub fn detach_allowed<R: Drop>(q: &mut Slots<R>, by: ActorId, slot: SlotId, buffer: u64)
     requires { refusal_of (told_of q.old) by (lent_call true (lease_of (told_of q.old) slot buffer)) ≡ None }

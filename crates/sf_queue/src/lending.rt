@@ -157,7 +157,7 @@ pub fn dequeue<R: Drop>(
     }
 }
 
-/// Lends the buffer that `choose` told. It does what `dequeue` does.
+/// Lends the buffer that `choose` returned. It does what `dequeue` does.
 pub fn dequeue_chosen<R: Drop>(
     q: &mut Slots<R>,
     by: ActorId,

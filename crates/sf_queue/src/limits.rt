@@ -13,8 +13,8 @@ ghost use Rattle.sf_slots.specs.Effects.{refusal_in, nobody};
 use sf_base::QStatus;
 use sf_slots::{Settings, SlotState, Slots};
 
-/// The first cause that is met: abandoned; not 1 to 63; fewer than are dequeued now; the slots do
-/// not allow it.
+/// The first cause that is met: abandoned; not 1 to 63; fewer than are dequeued; the slots do not
+/// allow it.
 fn max_dequeued_refusal<R: Drop>(q: &Slots<R>, n: u32) -> Option<QStatus>
     ensures refusal { result ≡ refusal_of (told_of q.now) nobody (call.MaxDequeued n) }
     ensures allowed { result ≡ None → forbids (told_of q.now) (usable (record q.now.settings { max_dequeued = n })) ≡ false }

@@ -178,7 +178,7 @@ fn put<R: Drop>(q: &mut Slots<R>, order: QueueOrder<R>, held: Held) -> u64
     frame
 }
 
-/// Queues a frame that is known not to be refused, as `queue_refusal` tells, and answers its number.
+/// Queues a frame that is known not to be refused, as `queue_refusal` says, and answers its number.
 /// It does what `queue` does.
 pub fn queue_allowed<R: Drop>(q: &mut Slots<R>, by: ActorId, order: QueueOrder<R>) -> u64
     requires numbered { q.old.settings.frames < 2 ^ 64 - 1 }

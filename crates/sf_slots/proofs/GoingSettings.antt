@@ -1,6 +1,6 @@
 -- A history goes on with the calls that set the queue's producer, limits and mode, and with giving
 -- it up.
-use Rattle.std.proofs.Common.{◌≡◌, ℕ, ◌≤◌, Bool, true, false, List, [], ◌∷◌, ◌++◌, arith, ap, ap₂, ◌∙◌, sym, refl, map, filter, Some, None}
+use Rattle.std.proofs.Common.{◌≡◌, ℕ, ◌≤◌, Bool, true, List, [], ◌∷◌, ◌++◌, arith, ap, ap₂, ◌∙◌, sym, refl, map, filter, None}
 use Rattle.std.specs.List.{range_with_len}
 use Rattle.sf_base.specs.declared.ids.ActorId.{ActorId}
 use Rattle.sf_slots.specs.declared.calls.Entry.{Entry}
@@ -31,14 +31,6 @@ Tells-settings {R} q es settings tells same frames buffers =
       buffers = buffers ∙ tells.buffers;
     } in
     Tells-along es es (configured_same q settings same) refl plain
-
-pub Continues-Connect : {R : Type 0} (q : Queue R) (caller : ActorId) → refusal_of (told_of q) caller call.Connect ≡ None → Continues q (configured q (record q.settings { connected = Some caller; queued = false })) caller call.Connect reply.Done
-Continues-Connect {R} q caller none =
-    let settings : Settings = record q.settings { connected = Some caller; queued = false } in
-    go_on q (configured q settings) caller call.Connect reply.Done (not_refused (told_of q) caller call.Connect reply.Done none refl) (λ width height step history told. record {
-      tells = Tells-settings q (events history) settings (told_tells width height history told) refl refl refl;
-      settings = ap (λ (t : Told). record t.settings { connected = Some caller; queued = false }) told;
-    })
 
 -- settings after events that take buffers away
 kept_counts : (settings : Settings) (xs : List ℕ) (es : List Event) → record settings { frames = frames_queued es; buffers = buffers_made es } ≡ record settings { frames = frames_queued (happening (map Gone xs) es); buffers = buffers_made (happening (map Gone xs) es) }

@@ -9,7 +9,7 @@ use Rattle.sf_slots.specs.declared.slot.Slot.{Slot}
 use Rattle.sf_slots.specs.declared.slot.SlotState.{SlotState}
 use Rattle.sf_slots.specs.Told.{unused, same_state}
 use Rattle.sf_slots.specs.declared.slot.SlotState.TheVariants.{Free, Dequeued, Queued, Acquired}
-use Rattle.sf_slots.specs.Queue.{contains, without, turned, IsApart, ListsSlots}
+use Rattle.sf_slots.specs.Queue.{contains, without, rotated, IsApart, ListsSlots}
 use Rattle.std.proofs.lemmas.List.{take_more}
 use Rattle.std.proofs.lemmas.List.Elements.{filter-append}
 use Rattle.std.proofs.Math.Seq.{take-length, drop-length}
@@ -112,20 +112,6 @@ ListsSlots-restate {slots} {state} {xs} lists s slot low same = record {
   ];
 }
 
--- a slot of the state joins the list
-pub ListsSlots-join : {slots : List Slot} {state : SlotState} {xs : List ℕ} → ListsSlots slots state xs → (s : ℕ) → s < length slots → contains xs s ≡ false → (get_or slots s unused).state ≡ state → ListsSlots slots state (xs ++ s ∷ [])
-ListsSlots-join {slots} {state} {xs} lists s low absent right = record {
-  apart = IsApart-push xs s absent lists.apart;
-  below = λ t member. elim (cases_Bool (t == s)) [
-    | inl met ↦ let same : t ≡ s = grind (arith, nat_tests, met) in rw same low
-    | inr unmet ↦ lists.below t (grind (arith, nat_tests, unmet, contains-append xs (s ∷ []) t, member))
-  ];
-  stated = λ t member. elim (cases_Bool (t == s)) [
-    | inl met ↦ let same : t ≡ s = grind (arith, nat_tests, met) in rw same right
-    | inr unmet ↦ lists.stated t (grind (arith, nat_tests, unmet, contains-append xs (s ∷ []) t, member))
-  ];
-}
-
 -- the first slot leaves the list
 pub ListsSlots-tail : {slots : List Slot} {state : SlotState} {xs : List ℕ} (x : ℕ) → ListsSlots slots state (x ∷ xs) → ListsSlots slots state xs
 ListsSlots-tail {slots} {state} {xs} x lists = record {
@@ -152,19 +138,19 @@ ListsSlots-init {slots} {state} {xs} x lists = record {
   stated = λ t member. lists.stated t (grind (arith, nat_tests, contains-append xs (x ∷ []) t, member));
 }
 
--- a list whose first i numbers were turned
-pub turned-step : (xs : List ℕ) (s i : ℕ) → i < length xs → turned s (drop i xs ++ without s (take i xs)) ≡ drop (i + 1) xs ++ without s (take (i + 1) xs)
-turned-step xs s i more =
+-- a list whose first i numbers were rotated
+pub rotated-step : (xs : List ℕ) (s i : ℕ) → i < length xs → rotated s (drop i xs ++ without s (take i xs)) ≡ drop (i + 1) xs ++ without s (take (i + 1) xs)
+rotated-step xs s i more =
     let front : drop i xs ≡ get_or xs i 0 ∷ drop (i + 1) xs = rw add-one (drop-cons xs i 0 more) in
     let taken : without s (take (i + 1) xs) ≡ without s (take i xs) ++ without s (get_or xs i 0 ∷ []) = rw (take_more xs i 0 more) (filter-append (λ t. not (t == s)) (take i xs) (get_or xs i 0 ∷ [])) in
     rw (front, taken) (append_assoc (drop (i + 1) xs) (without s (take i xs)) (without s (get_or xs i 0 ∷ [])))
 
-pub turned-all : (xs : List ℕ) (s i : ℕ) → i ≡ length xs → drop i xs ++ without s (take i xs) ≡ without s xs
-turned-all xs s i end = rw (end, drop-length, take-length) refl
+pub rotated-all : (xs : List ℕ) (s i : ℕ) → i ≡ length xs → drop i xs ++ without s (take i xs) ≡ without s xs
+rotated-all xs s i end = rw (end, drop-length, take-length) refl
 
-pub length-turned : (xs : List ℕ) (s : ℕ) → length (turned s xs) ≤ length xs
-length-turned [] s = omega arith
-length-turned (x ∷ xs) s = elim (cases_Bool (x == s)) [
+pub length-rotated : (xs : List ℕ) (s : ℕ) → length (rotated s xs) ≤ length xs
+length-rotated [] s = omega arith
+length-rotated (x ∷ xs) s = elim (cases_Bool (x == s)) [
   | inl met ↦ rw met (simp length-append (omega arith))
   | inr unmet ↦ rw unmet (simp length-append (omega arith))
 ]

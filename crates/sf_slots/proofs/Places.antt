@@ -1,5 +1,5 @@
 -- What changes of slots make of the list of all slots.
-use Rattle.std.proofs.Common.{◌≡◌, ℕ, ◌+◌, ◌<◌, ◌≤◌, suc, zero, ◌==◌, List, [], ◌∷◌, length, get_or, set, arith, ap, refl, map}
+use Rattle.std.proofs.Common.{◌≡◌, ℕ, ◌+◌, ◌<◌, ◌≤◌, suc, zero, ◌==◌, List, [], ◌∷◌, get_or, set, arith, refl, map}
 use Rattle.std.proofs.lemmas.Bool.Decides.{nat_tests}
 use Rattle.std.specs.Prelude.{if◌then◌else◌}
 use Rattle.std.specs.List.{range_with_len}
@@ -31,10 +31,6 @@ map_each f g change (x ∷ xs) each =
     let here = each x in
     let there = map_each f g change xs each in
     cc
-
-pub length-numbers : (a n : ℕ) → length (range_with_len a n) ≡ n
-length-numbers a zero = refl
-length-numbers a (suc n) = ap (λ m. suc m) (length-numbers (a + 1) n)
 
 -- every place changes, on the numbers from one on
 pub map_from : {A B : Type 0} (f : ℕ → A) (g : ℕ → B) (change : A → B) (a n : ℕ) → ((u : ℕ) → a ≤ u → u < a + n → g u ≡ change (f u)) → map change (map f (range_with_len a n)) ≡ map g (range_with_len a n)

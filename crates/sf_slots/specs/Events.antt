@@ -1,4 +1,4 @@
--- What happens to the slots of a queue, and what a list of events tells of each slot. The lists have
+-- What happens to the slots of a queue, and what a list of events says of each slot. The lists have
 -- the newest event first, so that each question looks back from now.
 use Rattle.std.specs.Prelude.{ℕ, ◌+◌, Bool, true, false, not, ◌==◌, if◌then◌else◌, List, [], ◌∷◌, ◌++◌, Option, Some, None, filter, filter_map}
 use Rattle.sf_base.specs.Fences.{Fence, no_points}
@@ -32,7 +32,7 @@ pub data Event : Type 0 where
   -- no buffer counts as requested any more
   Unmark : Event
 
--- the state of a slot is told by its last event of these five kinds
+-- the state of a slot is given by its last event of these five kinds
 abbrev pub state_after : List Event → ℕ → SlotState
 state_after [] s = Free
 state_after (Lend t ∷ earlier) s = if t == s then Dequeued else state_after earlier s

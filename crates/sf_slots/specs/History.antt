@@ -1,4 +1,4 @@
--- What the history of a queue's calls tells of it. A history has the newest entry first, so that each
+-- What the history of a queue's calls makes of it. A history has the newest entry first, so that each
 -- question looks back from now.
 use Rattle.std.specs.Prelude.{ℕ, ◌-◌, Bool, true, false, if◌then◌else◌, List, [], ◌∷◌, ◌++◌, take, map, filter, Option, Some, None, unwrap_or}
 use Rattle.std.specs.List.{range_with_len}
@@ -177,7 +177,7 @@ settings_after width height history = record {
   buffers = buffers_made (events history);
 }
 
--- what the history of a queue of this default size tells of it
+-- what the history of a queue of this default size makes of it
 abbrev pub told_by : ℕ → ℕ → List Entry → Told
 told_by width height history = record {
   slots = map (slot_after (events history)) all_slots;

@@ -1,4 +1,4 @@
--- A queue as the moves see it: what is told of it, and the rights in its slots and items.
+-- A queue as the moves see it: what its calls made of it, and the rights in its slots and items.
 use Rattle.std.specs.Prelude.{◌≡◌, ℕ, ◌+◌, ◌-◌, ◌<◌, ◌≤◌, Bool, true, false, not, ◌==◌, ◌&&◌, nat_lt, is_some, if◌then◌else◌}
 use Rattle.std.specs.Prelude.{List, [], ◌∷◌, ◌++◌, length, map, filter, Option, Some, None, replicate, slice_get, slice_index_or, slice_set, take, drop}
 use Rattle.std.specs.List.{list_any, range_with_len}
@@ -35,7 +35,7 @@ plain_item item = record {
   crop = item.crop;
 }
 
--- what is told of a queue, apart from the rights
+-- what a queue is, apart from the rights
 abbrev pub told_of : {R : Type 0} → Queue R → Told
 told_of q = record { slots = q.slots; freed = q.freed; items = map plain_item q.items; settings = q.settings }
 
@@ -113,9 +113,9 @@ abbrev pub without : ℕ → List ℕ → List ℕ
 without s xs = filter (λ t. not (t == s)) xs
 
 -- the first number of a list goes last, or out
-abbrev pub turned : ℕ → List ℕ → List ℕ
-turned s [] = []
-turned s (x ∷ xs) = xs ++ without s (x ∷ [])
+abbrev pub rotated : ℕ → List ℕ → List ℕ
+rotated s [] = []
+rotated s (x ∷ xs) = xs ++ without s (x ∷ [])
 
 -- a free slot goes to the producer, with its right and its stored fence
 abbrev pub lent : {R : Type 0} → Queue R → ℕ → Queue R

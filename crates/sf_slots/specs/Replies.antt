@@ -220,7 +220,7 @@ abbrev pub refused_or : Option QStatus → PlainReply → PlainReply
 refused_or None given = given
 refused_or (Some cause) given = reply.Refused cause
 
--- the reply to a call, of what is told of the queue
+-- the reply to a call, by what the queue is
 abbrev pub reply_told : Told → ActorId → PlainCall → PlainReply
 reply_told told caller asked = refused_or (refusal_of told caller asked) (given_by told asked)
 

@@ -1,4 +1,4 @@
--- What it is for the history of a queue's calls to tell of the queue, and for a call to go on with it.
+-- What it is for the history of a queue's calls to give the queue, and for a call to go on with it.
 use Rattle.std.specs.Prelude.{◌≡◌, ℕ, List, [], ◌∷◌}
 use Rattle.sf_base.specs.declared.ids.ActorId.{ActorId}
 use Rattle.sf_slots.specs.declared.calls.Entry.{Entry}
@@ -8,17 +8,17 @@ use Rattle.sf_slots.specs.Queue.{Queue, told_of}
 use Rattle.sf_slots.specs.History.{told_by}
 use Rattle.sf_slots.specs.Replies.{reply_after}
 
--- the history of a queue of this default size tells of it
+-- the history of a queue of this default size gives it
 abbrev pub IsToldBy : {R : Type 0} → Queue R → ℕ → ℕ → List Entry → Type 0
 IsToldBy q width height history = told_of q ≡ told_by width height history
 
--- a call after this history: its reply is what the history says, and with its entry the history tells
+-- a call after this history: its reply is what the history says, and with its entry the history gives
 -- of the queue after it
 pub record IsNext {R : Type 0} (after : Queue R) (width height : ℕ) (history : List Entry) (entry : Entry) : Type 0 where
   pub reply : entry.reply ≡ reply_after width height history entry.caller entry.call
   pub told : IsToldBy after width height (entry ∷ history)
 
--- whatever history tells of the queue before a call, it goes on with this call and tells of the queue
+-- whatever history gives the queue before a call, it goes on with this call and gives the queue
 -- after it
 abbrev pub Continues : {R : Type 0} → Queue R → Queue R → ActorId → PlainCall → PlainReply → Type 0
 Continues before after caller call reply = (width height step : ℕ) (history : List Entry) → IsToldBy before width height history

@@ -12,7 +12,7 @@ ghost use Rattle.sf_slots.specs.Refusals.{refusals_of};
 ghost use Rattle.sf_slots.specs.Replies.{refusal_of};
 ghost use Rattle.sf_slots.specs.Tells.{IsToldBy, CameBy, AreReplies};
 
-/// A new queue is what a history without calls tells of it.
+/// A new queue is what a history without calls gives.
 pub fn no_calls_tell_of_a_new_queue<R>()
     ensures { (number : QueueId) (width height : ℕ) →
         IsToldBy (empty_queue {R = R} number width height) width height [] }
@@ -31,8 +31,8 @@ pub fn a_free_slot_is_found_where_there_is_one<R>()
         is_some (slot_for with_buffer (told_of q)) ≡ has_free (told_of q) }
 {}
 
-/// After every list of calls that a new queue came by, its history tells of it, and each reply was
-/// what the history before it says.
+/// After every list of calls that a new queue came by, it is what its history gives, and each reply
+/// was what the history before it gives.
 pub fn calls_are_told_by_their_history<R>()
     ensures { (number : QueueId) (width height : ℕ) (history : List Entry) (after : Queue R) →
         CameBy (empty_queue number width height) history after →

@@ -1,7 +1,7 @@
 //! The slots of a BufferQueue: their states and buffers, the items that wait for the consumer, the
 //! list of freed buffers and the queue's settings, with the moves between them. The calls of
 //! producers and consumers, in the crates above, are made of these moves. The definitions of what a
-//! history of calls tells of a queue, and of the reply to each call, stand here too.
+//! history of calls makes of a queue, and of the reply to each call, stand here too.
 #![tactic(auto)]
 
 mod calls;

@@ -2,7 +2,7 @@
 ghost use Rattle.std.specs.Prelude.{◌≡◌, ◌<◌, ◌≤◌, ◌∷◌, ◌++◌, [], length, slice_index_or, slice_set};
 ghost use Rattle.circular_buffer.specs.Buffer.{buffer};
 ghost use Rattle.sf_slots.specs.Told.{unused};
-ghost use Rattle.sf_slots.specs.Queue.{without, turned};
+ghost use Rattle.sf_slots.specs.Queue.{without, rotated};
 
 use circular_buffer::HeapCircularBuffer;
 
@@ -15,9 +15,9 @@ pub(crate) fn push(list: &mut HeapCircularBuffer<u32>, number: u32)
 }
 
 /// Puts the first slot of a list last, or drops it where it is the one to go.
-fn turn(list: &mut HeapCircularBuffer<u32>, number: u32)
+fn rotate(list: &mut HeapCircularBuffer<u32>, number: u32)
     requires { length list.old.items ≤ list.old.capacity }
-    ensures { list.new ≡ buffer (turned number list.old.items) list.old.capacity }
+    ensures { list.new ≡ buffer (rotated number list.old.items) list.old.capacity }
 {
     match list.pop_front() {
         Some(first) if first != number => push(list, first),
@@ -30,7 +30,7 @@ pub(crate) fn remove(list: &mut HeapCircularBuffer<u32>, number: u32)
     ensures { list.new ≡ buffer (without number list.old.items) list.old.capacity }
 {
     for _ in 0..list.len() {
-        turn(list, number);
+        rotate(list, number);
     }
 }
 

@@ -6,7 +6,7 @@ use Rattle.atomic_table.specs.Seated.{TableId}
 use Rattle.sf_base.specs.declared.ids.QueueId.{QueueId}
 use Rattle.sf_base.specs.declared.status.QStatus.TheVariants.{WouldBlock}
 use Rattle.sf_calls.specs.Histories.{IsLegal, entry}
-use Rattle.sf_slots.specs.declared.calls.Entry.{Entry as Told}
+use Rattle.sf_slots.specs.declared.calls.Entry.{Entry as PlainEntry}
 use Rattle.sf_slots.specs.declared.calls.PlainReply.{PlainReply}
 use Rattle.sf_slots.specs.declared.calls.PlainReply.TheVariants as plain
 use Rattle.sf_slots.specs.declared.item.Item.{Item}
@@ -14,7 +14,7 @@ use Rattle.sf_slots.specs.declared.slot.Held.{Held}
 use Rattle.sf_slots.specs.Queue.{Queue, empty_queue, told_of}
 use Rattle.sf_slots.specs.Replies.{given_by, refusal_of, refused_or, reply_told}
 use Rattle.sf_slots.specs.Tells.{IsNext, IsToldBy}
-use Rattle.sf_slots.specs.Told.{Told as Known}
+use Rattle.sf_slots.specs.Told.{Told}
 use Rattle.sf_surface.specs.declared.call.QCall.{QCall}
 use Rattle.sf_surface.specs.declared.call.QReply.{QReply}
 use Rattle.sf_surface.specs.declared.entry.HistEntry.{HistEntry}
@@ -32,8 +32,8 @@ use Rattle.sf_surface.proofs.CountLemmas.{history_few}
 use Rattle.sf_surface.proofs.ShownLemmas.{tells}
 
 -- the entries of calls, with one call more
-entries_with : (call : Told) (calls : List Told) → entries_of (call ∷ calls) ≡ entries_of calls ++ shown_call call ∷ []
-entries_with call calls = ap (λ (xs : List Told). map shown_call xs) (reverse-append (call ∷ []) calls) ∙ map-append shown_call (reverse calls) (call ∷ [])
+entries_with : (call : PlainEntry) (calls : List PlainEntry) → entries_of (call ∷ calls) ≡ entries_of calls ++ shown_call call ∷ []
+entries_with call calls = ap (λ (xs : List PlainEntry). map shown_call xs) (reverse-append (call ∷ []) calls) ∙ map-append shown_call (reverse calls) (call ∷ [])
 
 no_right : Option Right
 no_right = None
@@ -71,11 +71,11 @@ module _ {B : Type 0} (table : TableId) where
   -- the counters stay below their ends, since each rise has its call
   pub counters_low : (number : QueueId) (shown : List HistEntry) (object : ObjectOf B) → IsKept table number shown object → length shown < 2 ^ 63 → (object.queue.settings.buffers < 2 ^ 64 - 1) × (object.queue.settings.frames < 2 ^ 64 - 1)
   counters_low number shown object kept short =
-      let calls : List Told = told (mark_of object) object.calls in
+      let calls : List PlainEntry = told (mark_of object) object.calls in
       let few = history_few calls in
       let long : length shown ≡ length calls = ap (λ (xs : List HistEntry). length xs) kept.shows ∙ length-map (reverse calls) shown_call ∙ length-reverse calls in
-      let buffers = ap (λ (t : Known). t.settings.buffers) kept.keeps.told in
-      let frames = ap (λ (t : Known). t.settings.frames) kept.keeps.told in
+      let buffers = ap (λ (t : Told). t.settings.buffers) kept.keeps.told in
+      let frames = ap (λ (t : Told). t.settings.frames) kept.keeps.told in
       (omega (arith, few.0, long, buffers, short), omega (arith, few.1, long, frames, short))
 
   module _ (old : ObjectOf B) (after : Queue Right) (by step : ℕ) (asked : QCall B) (reply : QReply B) where
@@ -83,7 +83,7 @@ module _ {B : Type 0} (table : TableId) where
     new_object : ObjectOf B
     new_object = record { queue = after; calls = entry by (step, asked) reply ∷ old.calls }
 
-    told_here : Told
+    told_here : PlainEntry
     told_here = told_entry (mark_of old) (told (mark_of old) old.calls) (entry by (step, asked) reply)
 
     mark_kept : Does table old.queue after (caller by) asked reply → mark_of old ≡ mark_of new_object
@@ -108,7 +108,7 @@ module _ {B : Type 0} (table : TableId) where
     unfolding told_here
     told_after does kept =
         let next = goes_on does kept in
-        subst (λ (r : PlainReply). IsToldBy after old.queue.settings.width old.queue.settings.height ((let call : Told = record { caller = caller by; step = step; call = told_call old.queue.number asked; reply = r } in call) ∷ told (mark_of old) old.calls)) next.reply next.told
+        subst (λ (r : PlainReply). IsToldBy after old.queue.settings.width old.queue.settings.height ((let call : PlainEntry = record { caller = caller by; step = step; call = told_call old.queue.number asked; reply = r } in call) ∷ told (mark_of old) old.calls)) next.reply next.told
 
     -- a call keeps what the queue with its history keeps
     keeps_call : Does table old.queue after (caller by) asked reply → HasNotWaited asked reply → IsObject table old → IsObject table new_object
@@ -133,7 +133,7 @@ module _ {B : Type 0} (table : TableId) where
     pub kept_call : (number : QueueId) (shown : List HistEntry) → Does table old.queue after (caller by) asked reply → HasNotWaited asked reply → IsKept table number shown old → IsKept table number (shown ++ shown_with by step (named_of number asked) reply ∷ []) (record { queue = after; calls = entry by (step, asked) reply ∷ old.calls })
     unfolding new_object told told_here
     kept_call number shown does waited kept =
-        let calls : List Told = told (mark_of old) old.calls in
+        let calls : List PlainEntry = told (mark_of old) old.calls in
         let log : List (Made B) = entry by (step, asked) reply ∷ old.calls in
         let next = goes_on does kept.keeps in
         let named = ap (λ (n : QueueId). shown_with by step (named_of n asked) reply) kept.numbered in
@@ -149,4 +149,4 @@ module _ {B : Type 0} (table : TableId) where
   pub waits_call : (object : ObjectOf B) (by : ℕ) (asked : QCall B) → IsObject table object → may_wait asked ≡ true → refusal_of (told_of object.queue) (caller by) (told_call object.queue.number asked) ≡ Some WouldBlock → (may_wait asked ≡ true) × (told_reply (mark_of object) object.calls by asked ≡ plain.Refused WouldBlock)
   waits_call object by asked kept waits blocked =
       let asks = told_call object.queue.number asked in
-      (waits, sym (ap (λ (t : Known). reply_told t (caller by) asks) kept.told) ∙ ap (λ refusal. refused_or refusal (given_by (told_of object.queue) asks)) blocked)
+      (waits, sym (ap (λ (t : Told). reply_told t (caller by) asks) kept.told) ∙ ap (λ refusal. refused_or refusal (given_by (told_of object.queue) asks)) blocked)

@@ -1,4 +1,4 @@
--- The calls that were made on a queue, the newest first, with the tokens that they brought and gave, and what they tell.
+-- The calls that were made on a queue, the newest first, with the tokens that they brought and gave, and what they make of the queue.
 use Rattle.std.specs.Prelude.{◌≡◌, ◌≢◌, ℕ, ◌==◌, true, if◌then◌else◌, List, [], ◌∷◌, Option, Some, None, Contains}
 use Rattle.sf_base.specs.declared.ids.ActorId.{ActorId}
 use Rattle.sf_base.specs.declared.ids.QueueId.{QueueId}
@@ -9,7 +9,7 @@ use Rattle.sf_calls.specs.declared.object.Entry.{Entry}
 use Rattle.sf_calls.specs.declared.object.Answer.{Answer}
 use Rattle.sf_calls.specs.declared.object.Answer.TheVariants.{Replies, Waits}
 use Rattle.sf_turns.specs.sf_picture.declared.picture.Picture.{Picture}
-use Rattle.sf_slots.specs.declared.calls.Entry.{Entry as Told}
+use Rattle.sf_slots.specs.declared.calls.Entry.{Entry as PlainEntry}
 use Rattle.sf_slots.specs.declared.calls.PlainReply.{PlainReply}
 use Rattle.sf_slots.specs.declared.calls.PlainReply.TheVariants as plain
 use Rattle.sf_slots.specs.declared.slot.Held.{Held}
@@ -44,8 +44,8 @@ left_after None before s = before
 left_after (Some left) before s = if left.slot == s then Some left else before
 
 module _ {B : Type 0} where
-  -- what a call tells of the queue, after what was told before it
-  abbrev pub told_entry : QueueMark → List Told → Made B → Told
+  -- what a call makes of the queue, after the calls before it
+  abbrev pub told_entry : QueueMark → List PlainEntry → Made B → PlainEntry
   told_entry mark earlier made = record {
     caller = caller made.by;
     step = made.call.0;
@@ -53,8 +53,8 @@ module _ {B : Type 0} where
     reply = reply_after mark.width mark.height earlier (caller made.by) (told_call mark.queue made.call.1);
   }
 
-  -- what calls tell, the newest first
-  unfoldable pub told : QueueMark → List (Made B) → List Told
+  -- what calls make of the queue, the newest first
+  unfoldable pub told : QueueMark → List (Made B) → List PlainEntry
   told mark [] = []
   told mark (made ∷ earlier) = told_entry mark (told mark earlier) made ∷ told mark earlier
 

@@ -1,4 +1,4 @@
--- What a call tells the record of a queue's history before it is made, and what its reply adds.
+-- What a call says to the record of a queue's history before it is made, and what its reply adds.
 use Rattle.std.specs.Prelude.{ℕ, Bool, true, false, if◌then◌else◌, List, [], ◌∷◌, Some, None, unwrap_or}
 use Rattle.sf_base.specs.Statuses.{number_of}
 use Rattle.sf_base.specs.declared.ids.QueueId.{QueueId}

@@ -76,7 +76,7 @@ module _ {B : Type 0} where
   abbrev pub mark_of : ObjectOf B → QueueMark
   mark_of object = record { queue = object.queue.number; width = object.queue.settings.width; height = object.queue.settings.height }
 
-  -- what a queue with its history keeps: each reply is what the calls before it say, and the calls tell of the queue, of
+  -- what a queue with its history keeps: each reply is what the calls before it say, and the calls give the queue, of
   -- its frames and of the rights in its slots
   pub record IsObject (table : TableId) (object : ObjectOf B) : Type 0 where
     pub sized : HasDefaultSize object.queue.settings

@@ -28,7 +28,7 @@ use sf_turns::{Permit, TableName, Turn};
 use std::alloc::Global;
 use std::marker::PhantomData;
 
-/// The first right to a new buffer of this size, transparent black. Want of memory hands the permit
+/// The first right to a new buffer of this size, transparent black. Out of memory hands the permit
 /// back.
 fn open(
     alloc: Global,

@@ -53,7 +53,7 @@ fn next_may_have_points(slots: &Slots<Turn<Painted>>) -> bool
     }
 }
 
-/// Whether the reply to a call may tell points.
+/// Whether the reply to a call may have points.
 fn may_tell_points<B: TableName>(slots: &Slots<Turn<Painted>>, call: &QCall<B>) -> bool
     ensures { (n : ℕ) → (result ≡ true → 132 ≤ n) → HasRoomFor slots.now call.now n }
 {
@@ -160,12 +160,12 @@ impl<B: TableName> Object for QueueObject<B> {
         let _ = &self.slots;
     }
 
-    /// Makes a call for a step of an actor, or for a vsync where the caller is 0, and keeps it in the
-    /// history. A token of another queue, and a lease that is queued with another picture than was
-    /// drawn in it, count as ones that name no slot; a token whose buffer is not the one in its slot,
-    /// by number and size, means no buffer there. A refused call hands back what it brought. A
-    /// dequeue that may wait is not made where no slot is free. For want of memory the call comes
-    /// back and nothing is kept.
+    /// Makes a call for a step of an actor, or for a vsync where the caller is 0, and keeps it in
+    /// the history. A token of another queue, and a lease that is queued with another picture than
+    /// was drawn in it, count as ones that name no slot; a token whose buffer is not the one in its
+    /// slot, by number and size, means no buffer there. A refused call hands back what it brought.
+    /// A dequeue that may wait is not made where no slot is free. Where memory runs out the call
+    /// comes back and nothing is kept.
     fn apply(&mut self, by: u32, call: (u32, QCall<B>)) -> Outcome<(u32, QCall<B>), QReply<B>> {
         let (step, asked) = call;
         let has_points = may_tell_points(&self.slots, &asked);

@@ -1,4 +1,4 @@
-//! How the compositor reads a frame: its lease tells whether the write has ended, gives out the
+//! How the compositor reads a frame: its lease says whether the write has ended, gives out the
 //! pixels, and hands the right on before the read ends.
 use crate::token::ReadLease;
 use sf_base::{Fence, NoMemory, QueueId, Rect, SlotId};

@@ -29,14 +29,3 @@ module _ {L E R C : Type 0} where
         held = All-push (λ (a : Arrival L). HoldsAll holds a.txn.buffers) list _ h.held fits;
         few = omega (arith, few, length-append {A = ArrvEntry});
       }
-
-  -- what waits is taken
-  pub IsArrivals-take : (holds : L → Type 0) (calls : Calls L E R C) (list : List (Arrival L)) (entries : List ArrvEntry) (by : ℕ)
-      → IsArrivals {E = E} {R = R} {C = C} holds calls list entries → IsArrivals {E = E} {R = R} {C = C} holds (entry by call.Take (reply.Batch list) ∷ calls) [] entries
-  IsArrivals-take holds calls list entries by h = record {
-    legal = (h.waits, h.legal);
-    waits = refl;
-    told = h.told ∙ sym (ap (map entry_of) (append-nil (sent calls)));
-    held = All-nil (λ (a : Arrival L). HoldsAll holds a.txn.buffers);
-    few = h.few;
-  }

@@ -7,7 +7,7 @@ use Rattle.std.specs.List.{AllZip, find, list_any, slice_get}
 use Rattle.std.specs.List.Sorted.{IsStrictlySortedBy}
 use Rattle.std.specs.Map.{keys_of, lookup}
 use Rattle.std.specs.Ordering.{nat_cmp}
-use Rattle.std.specs.Option.{option_map}
+use Rattle.std.specs.Option.{option_map, option_map_or}
 use Rattle.sf_base.specs.declared.ids.TokenId.{TokenId}
 use Rattle.sf_txn.specs.Transactions.{without_first}
 use Rattle.sf_txn.specs.declared.lease.Lease.{Ghosts}
@@ -169,6 +169,33 @@ module _ {L : Type 0} where
   -- the first number of a token, in its queue and among what is pending
   pub first_of : (q : ℕ → Option (List ℕ)) (pending : List (Arrival L)) (t : ℕ) → IsIndex q pending → first_in (q t) ≡ slice_get (numbers_of t pending) 0
   first_of q pending t index = ap first_in (index t) ∙ first_queue (numbers_of t pending)
+
+  -- the number of a token's head is its first one
+  head_number : (t : ℕ) (xs : List (Arrival L)) → option_map (λ (a : Arrival L). a.number) (find (is_of (record { 0 = t })) xs) ≡ slice_get (numbers_of t xs) 0
+  head_number t [] = refl
+  head_number t (x ∷ xs) = by_test (x.txn.token.0 == t) refl (head_number t xs)
+    where
+      number_of : Option (Arrival L) → Option ℕ
+      number_of found = option_map (λ (a : Arrival L). a.number) found
+
+      by_test : (b : Bool) → (x.txn.token.0 == t) ≡ b → number_of (find (is_of (record { 0 = t })) xs) ≡ slice_get (numbers_of t xs) 0
+          → number_of (find (is_of (record { 0 = t })) (x ∷ xs)) ≡ slice_get (numbers_of t (x ∷ xs)) 0
+      by_test true e rest =
+          ap (λ b. number_of (cond b (Some x) (find (is_of (record { 0 = t })) xs))) e ∙ sym (ap (λ ns. slice_get ns 0) (numbers_of-cons t x xs true e))
+      by_test false e rest =
+          ap (λ b. number_of (cond b (Some x) (find (is_of (record { 0 = t })) xs))) e ∙ rest ∙ sym (ap (λ ns. slice_get ns 0) (numbers_of-cons t x xs false e))
+
+  by_number : (found : Option (Arrival L)) (number : ℕ)
+      → option_map_or (λ (first : Arrival L). first.number == number) found false ≡ option_map_or (λ n. n == number) (option_map (λ (a : Arrival L). a.number) found) false
+  by_number None number = refl
+  by_number (Some first) number = refl
+
+  -- whether a token's head has a number is told by the first number of its queue
+  pub is_first_by : (q : ℕ → Option (List ℕ)) (pending : List (Arrival L)) (t number : ℕ) → IsIndex q pending
+      → option_map_or (λ n. n == number) (first_in (q t)) false ≡ option_map_or (λ (first : Arrival L). first.number == number) (find (is_of (record { 0 = t })) pending) false
+  is_first_by q pending t number index =
+      ap (λ (first : Option ℕ). option_map_or (λ n. n == number) first false) (first_of q pending t index ∙ sym (head_number t pending))
+      ∙ sym (by_number (find (is_of (record { 0 = t })) pending) number)
 
   is_pending : (t : ℕ) (xs : List (Arrival L)) → is_some (queue_with (numbers_of t xs)) ≡ list_any (is_of (record { 0 = t })) xs
   is_pending t [] = refl

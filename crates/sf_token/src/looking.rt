@@ -57,7 +57,7 @@ pub fn rooms_for<L: Lease + Drop>(
     Ok(rooms)
 }
 
-/// Looks at a transaction's buffers, and tells what the looks showed.
+/// Looks at a transaction's buffers, and returns what the looks showed.
 fn look_at<L: Lease + Drop>(
     arrived: &mut Arrived<L>,
     eye: &mut L::Eye,
@@ -90,7 +90,7 @@ fn look_in<L: Lease + Drop>(slots: &mut Slab<Arrived<L>>, eye: &mut L::Eye, room
     look_at(&mut slots[key], eye, drawn)
 }
 
-/// Looks at what each key has, in order, and tells of each what the looks showed, in a list that
+/// Looks at what each key has, in order, and returns for each what the looks showed, in a list that
 /// has room for it.
 pub fn look_each<L: Lease + Drop>(
     slots: &mut Slab<Arrived<L>>,

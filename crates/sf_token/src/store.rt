@@ -61,7 +61,7 @@ impl<L: Lease + Drop> Store<L> {
         }
     }
 
-    /// A transaction comes, of a number above all others. Want of memory changes nothing.
+    /// A transaction comes, of a number above all others. Out of memory changes nothing.
     pub fn push(&mut self, arrived: Arrived<L>) -> Result<(), (NoMemory, Arrived<L>)>
         requires { AllByRecursion (λ earlier. earlier.number < arrived.number) self.old }
         ensures ok { OnOk result (self.new ≡ self.old ++ arrived ∷ []) }

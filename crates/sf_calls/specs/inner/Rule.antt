@@ -1,4 +1,4 @@
--- What holds between any two atomic steps at a lock, and what each kind of step tells. The word 0
+-- What holds between any two atomic steps at a lock, and what each kind of step shows. The word 0
 -- is the next ticket, the word 1 the ticket that is served, and the slot has the object.
 use Rattle.std.specs.Prelude.{◌≡◌, ℕ, ◌+◌, ◌<◌, ◌≤◌, ◌^◌, ◌==◌, true, false, Option, Some, None}
 use Rattle.std.specs.Prelude.{List, [], ◌∷◌, ◌⊎◌, length, slice_index, Contains, sum_by, if◌then◌else◌, ◌≢◌}
@@ -170,7 +170,7 @@ module _ {C R M : Type 0} where
     abbrev pub GivesUp : Step (Option O) → Me (Option O) (Knows C R M) → ℕ → Me (Option O) (Knows C R M) → Type 0
     GivesUp st m n m' = m' ≡ (record m.0 { ticket = None; inside = false; found = m.0.seen }, [])
 
-    -- a load that changes nothing, and tells the first pass: the history that it knew before it took
+    -- a load that changes nothing, and shows the first pass: the history that it knew before it took
     -- the last pass in, and all histories that were taken in, begin the one that it knows, which has
     -- no further calls of those numbers
     abbrev pub Recalls : Step (Option O) → Me (Option O) (Knows C R M) → ℕ → Me (Option O) (Knows C R M) → Type 0

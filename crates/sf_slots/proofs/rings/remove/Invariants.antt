@@ -5,6 +5,6 @@ use Rattle.sf_slots.proofs.rings.remove.Given as goal
 
 abbrev pub invariant-loop : goal.invariant-loop
 invariant-loop l = record {
-  turned : l.list ≡ buffer (drop l.counter l.fn.list.items ++ without l.number (take l.counter l.fn.list.items)) l.fn.list.capacity;
+  rotated : l.list ≡ buffer (drop l.counter l.fn.list.items ++ without l.number (take l.counter l.fn.list.items)) l.fn.list.capacity;
   room : length l.list.items ≤ l.list.capacity;
 }

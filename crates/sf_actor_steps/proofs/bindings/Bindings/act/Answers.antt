@@ -21,7 +21,7 @@ returns-in-CDetach-clause-acts g c =
     let home = g.D.Desk.home c.args.desk.now in
     let bindings = c.args.self.now in
     let old = g.D.Desk.view c.args.desk.now in
-    let new = g.D.Desk.view c.detach_read.new.desk in
-    ok-map _ _ c.detach_read.result
-    (λ (came_to : Tried) tries. subst (λ (s : Step). Acts (picture_at c.args.pictures.now) home bindings.by.0 c.args.step_number s bindings c.detach_read.new.self old new came_to) (sym c.in-CDetach.is) (tries (picture_at c.args.pictures.now)))
-    c.detach_read.ensures.tries
+    let new = g.D.Desk.view c.detach-in-CDetach.new.desk in
+    ok-map _ _ c.detach-in-CDetach.result
+    (λ (came_to : Tried) tries. subst (λ (s : Step). Acts (picture_at c.args.pictures.now) home bindings.by.0 c.args.step_number s bindings c.detach-in-CDetach.new.self old new came_to) (sym c.in-CDetach.is) (tries (picture_at c.args.pictures.now)))
+    c.detach-in-CDetach.ensures.tries
