@@ -18,7 +18,7 @@ use Rattle.sf_commit.proofs.KnownLemmas.{holds_along}
 use Rattle.sf_commit.specs.Handlers.{Decides, HandlerOf, begun as begun_by}
 use Rattle.sf_commit.specs.Leases.{AllOn, HandsBack, IsReleaseOf}
 use Rattle.sf_commit.specs.OnLayers.{OnLayer, shown_on}
-use Rattle.sf_commit.specs.Releases.{ReleaseOf, VsyncOf}
+use Rattle.sf_commit.specs.Releases.{ReleaseOf, CommittedOf}
 use Rattle.sf_commit.specs.Rounds.{Leads, Round, committed}
 use Rattle.sf_script_scene.specs.Scene.{SceneValue}
 use Rattle.sf_actor.specs.Known.{frame_of, plain_arrival}
@@ -62,7 +62,7 @@ module _ {L E R C : Type 0} (lease : Ghosts L E R C) (P : L → Type 0) (stays :
       (shown_have on (All-tail (λ (one : OnLayer L). P one.lease) one on all))
 
   -- what holds of the leases that a handler has and of those that arrive, looks keep it, holds of all that it has then, and of what goes
-  pub leases_have : (old new : HandlerOf L) (eye later : E) (arrived : List (Arrival L)) (seen : Seen) (expected : ℕ) (told : VsyncOf L)
+  pub leases_have : (old new : HandlerOf L) (eye later : E) (arrived : List (Arrival L)) (seen : Seen) (expected : ℕ) (told : CommittedOf L)
       → (d : Decides lease old eye arrived seen expected told new later) → AllLeases P old.pending → AllLeases P arrived → AllOn P old.on
       → AllLeases P d.looked × AllLeases P new.pending × AllOn P new.on × AllOn P d.end.stage.gone
   leases_have old new eye later arrived seen expected told d waits brought on =
@@ -79,7 +79,7 @@ module _ {L E R C : Type 0} (lease : Ghosts L E R C) (P : L → Type 0) (stays :
       )
 
 module _ {L E R C : Type 0} (lease : Ghosts L E R C) (frame : L → FrameOf) (written : List FrameNumber) (old new : HandlerOf L) (eye later : E) (arrived : List (Arrival L)) (seen : Seen)
-    (expected : ℕ) (told : VsyncOf L) (d : Decides lease old eye arrived seen expected told new later) where
+    (expected : ℕ) (told : CommittedOf L) (d : Decides lease old eye arrived seen expected told new later) where
   pub looks_tell : AllLeases (λ l. lease.knows later l → is_written written (frame l) ≡ true) d.looked → WroteWhatShows frame lease.shown written d.looked
   looks_tell known k a h j b g drawn = known k a h j b g ((d.shown k a h j b g).known drawn)
 

@@ -11,7 +11,7 @@ use Rattle.sf_commit.specs.sf_txn.declared.lease.Lease.{Ghosts}
 use Rattle.sf_commit.specs.Handlers.{Decides, HandlerOf, begun as begun_by, last_of}
 use Rattle.sf_commit.specs.Leases.{IsReleaseOf}
 use Rattle.sf_commit.specs.OnLayers.{shown_on}
-use Rattle.sf_commit.specs.Releases.{ReleaseOf, VsyncOf}
+use Rattle.sf_commit.specs.Releases.{ReleaseOf, CommittedOf}
 use Rattle.sf_commit.specs.Rounds.{IsNext, Leads, Round, held}
 use Rattle.sf_script_scene.specs.Scene.{SceneValue}
 use Rattle.sf_actor.specs.Makers.{Run}
@@ -36,7 +36,7 @@ use Rattle.law_played.specs.RunStates.{IsPlaysVsync, round_now}
 
 module _ {L E R C : Type 0} (lease : Ghosts L E R C) (frame : L → FrameOf) (plain : (a b : L) → lease.plain a ≡ lease.plain b → frame a ≡ frame b)
     (scene : SceneValue) (written : List FrameNumber) (arrivals : List (Arrival FrameOf)) (vsyncs : List VsyncRecords) (old new : HandlerOf L) (eye later : E)
-    (arrived : List (Arrival L)) (seen : Seen) (expected : ℕ) (told : VsyncOf L)
+    (arrived : List (Arrival L)) (seen : Seen) (expected : ℕ) (told : CommittedOf L)
     (played : HasPlayed frame scene written arrivals vsyncs old) (d : Decides lease old eye arrived seen expected told new later)
     (rises : IsRisingFrom old.last arrived (last_of old.last arrived)) where
   -- all that arrived, and the commits before
@@ -256,7 +256,7 @@ still_told frame scene written arrivals vsyncs handler played more = told_stays 
 -- the next vsync of a play
 module _ {L E R C : Type 0} (lease : Ghosts L E R C) (frame : L → FrameOf) (plain : (a b : L) → lease.plain a ≡ lease.plain b → frame a ≡ frame b) where
   pub vsync_of_play : (scene : SceneValue) (run : Run) (number : ℕ) (arrivals : List (Arrival FrameOf)) (vsyncs : List VsyncRecords) (old new : HandlerOf L) (eye later : E)
-      (arrived : List (Arrival L)) (told : VsyncOf L) → HasPlayed frame scene (written_in scene run) arrivals vsyncs old
+      (arrived : List (Arrival L)) (told : CommittedOf L) → HasPlayed frame scene (written_in scene run) arrivals vsyncs old
       → (d : Decides lease old eye arrived (final_values scene run) ((number + 1) * scene.period) told new later) → IsRisingFrom old.last arrived (last_of old.last arrived)
       → ShowsWhatIsWritten frame lease.shown (written_in scene run) d.looked
       → IsPlaysVsync scene (record { run = run; arrivals = arrivals ++ map (framed_arrival frame) arrived; reports = vsyncs; vsyncs = number })

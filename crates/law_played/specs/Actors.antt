@@ -1,4 +1,4 @@
--- The run that the actors over a desk tell: their traces, the calls on the desk's queues, and what arrived through it.
+-- The run of the actors over a desk: their traces, the calls on the desk's queues, and what arrived through it.
 use Rattle.std.specs.Prelude.{◌≡◌, ◌⊎◌, ℕ, ◌==◌, true, if◌then◌else◌, List, [], ◌∷◌, map, All, Contains}
 use Rattle.std.specs.List.Sorted.{IsPermutation, IsStrictlyIncreasing}
 use Rattle.sf_commit.specs.sf_calls.Histories.{IsLegal}
@@ -37,11 +37,11 @@ module _ {B : Type 0} where
   trace_among [] number = []
   trace_among (of ∷ ofs) number = if of.script.number == number then of.trace else trace_among ofs number
 
-  -- what the calls that a desk knows tell of the queue of this number
+  -- what the calls that a desk knows make of the queue of this number
   abbrev pub told_on : DeskHome → DeskView B → ℕ → List Entry
   told_on home view queue = told (mark_among home.marks queue) (view.calls queue)
 
-  -- the run that actors and their desk tell
+  -- the run of actors and their desk
   abbrev pub run_of : List (ActorOf B) → DeskHome → DeskView B → Run
   run_of ofs home view = record { trace = trace_among ofs; calls = told_on home view }
 

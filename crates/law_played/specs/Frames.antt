@@ -1,4 +1,4 @@
--- What a run shows: a vsync shows something exactly where one of its commits was not rejected, and it is what is due of the tree
+-- What a run shows: a vsync shows something exactly where one of its commits was not rejected, and these are the outputs due of the tree
 -- after all commits so far: the image of each display, of each captured layer that is there, and what is in front at each hit test.
 use Rattle.std.specs.Prelude.{◌≡◌, ℕ, ◌==◌, Bool, if◌then◌else◌, List, [], ◌∷◌, map, pos}
 use Rattle.std.specs.List.{All, list_any}
@@ -64,20 +64,20 @@ pub record HasOneOutput (scene : SceneValue) : Type 0 where
 unfoldable pub frame_of : (ℕ → Picture) → ImageDue → List ℕ
 frame_of pictures due = frame_bytes (λ x y. image_in pictures due.layers due.order (pos x) (pos y)) due.width due.height
 
--- what is due of layers, each image as its pixels
+-- the outputs due of layers, each image as its pixels
 unfoldable pub shown_due : (ℕ → Picture) → Plan → List Layer → List (Output (List ℕ))
 shown_due pictures plan layers = map (map_output (frame_of pictures)) (outputs_due plan layers)
 
--- what is due after these commits, where they leave this tree
+-- the outputs due after these commits, where they leave this tree
 abbrev pub shown_after : SceneValue → List CommitRecord → TreeOf → List (Output (List ℕ))
 shown_after scene commits tree =
     if list_any is_done commits then shown_due (picture_at scene.pictures) (plan_of scene) tree.layers else []
 
--- a vsync shows what is due of the tree after its commits
+-- a vsync shows the outputs due of the tree after its commits
 abbrev pub ShowsImage : SceneValue → VsyncAt → Type 0
 ShowsImage scene told = told.vsync.shown ≡ shown_after scene told.vsync.commits told.round.stage.tree
 
--- Frames. Each vsync shows what is due, and nothing else.
+-- Frames. Each vsync shows the outputs due, and nothing else.
 abbrev pub ShowImages : SceneValue → List VsyncAt → Type 0
 ShowImages scene told = All (ShowsImage scene) told
 

@@ -1,5 +1,5 @@
--- What a handler keeps over leases, told of plain frames: each lease stands for its frame, and where its pixels are lent is
--- not told.
+-- What a handler keeps over leases, said of plain frames: each lease stands for its frame, and where its pixels are lent is
+-- not said.
 use Rattle.std.specs.Prelude.{◌≡◌, map, None}
 use Rattle.sf_commit.specs.sf_ready.Facts.{TellsSame}
 use Rattle.sf_commit.specs.sf_token.Pending.{Arrival}
@@ -26,7 +26,7 @@ module _ {L M : Type 0} (frame : L → M) where
   framed_stage stage = record { tree = stage.tree; on = map framed_on stage.on; commits = stage.commits; gone = map framed_on stage.gone }
 
   -- a round of plain frames is a round over leases: it made the same, the same barriers are met, and the same layers got a
-  -- buffer. What is pending is not told.
+  -- buffer. What is pending is not said.
   pub record IsRoundOf (round : Round M) (r : Round L) : Type 0 where
     pub stage : round.stage ≡ framed_stage r.stage
     pub frames : TellsSame round.frames r.frames

@@ -66,7 +66,7 @@ pub record IsReleased (released : Released) (entry : Entry) : Type 0 where
   pub step : entry.step ≡ released.vsync
   pub call : entry.call ≡ release_by released
 
--- whoever called is an actor of the scene, or the compositor
+-- the caller is an actor of the scene, or the compositor
 abbrev pub IsCaller : SceneValue → Entry → Type 0
 IsCaller scene entry = ((entry.caller.0 == 0) || has_actor scene.actors entry.caller.0) ≡ true
 

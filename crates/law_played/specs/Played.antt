@@ -55,7 +55,7 @@ vsyncs_told scene arrivals events = told_of scene arrivals (vsyncs_in events)
 abbrev pub end_of : SceneValue → Run → List VsyncAt → EndOf
 end_of scene run told = record { written = written_in scene run; frames = (round_at_end (bare_round scene) told).frames; values = final_values scene run }
 
--- What is shown fits a run with these arrivals: the parts, one sentence each. Who sends a transaction is told its place among
+-- What is shown fits a run with these arrivals: the parts, one sentence each. Who sends a transaction learns its place among
 -- the arrivals, or not.
 pub record FitsWhere (tells : Bool) (scene : SceneValue) (shows : Shows) (run : Run) (arrivals : List (Arrival FrameOf)) : Type 0 where
   pub traces : AreTraced tells scene run arrivals
@@ -70,7 +70,7 @@ pub record FitsWhere (tells : Bool) (scene : SceneValue) (shows : Shows) (run : 
   pub holds : AreHeld (end_of scene run (vsyncs_told scene arrivals shows.events)) (uncommitted arrivals (commits_in (vsyncs_in shows.events))) shows.held
   pub ends : AreStuck scene run shows.stuck
 
--- so it does where each is told its place
+-- so it does where each learns its place
 abbrev pub Fits : SceneValue → Shows → Run → List (Arrival FrameOf) → Type 0
 Fits = FitsWhere true
 
@@ -83,7 +83,7 @@ pub record PlayedWhere (tells : Bool) (scene : SceneValue) (records : List Recor
   pub arrivals : List (Arrival FrameOf)
   pub fits : FitsWhere tells scene shows run arrivals
 
--- what a run's records mean, where each sender is told its place
+-- what a run's records mean, where each sender learns its place
 abbrev pub Played : SceneValue → List Record → Type 0
 Played = PlayedWhere true
 

@@ -1,4 +1,4 @@
--- How far a run has come whose vsyncs a handler makes: what it told is what the records say, and what it keeps is what waits.
+-- How far a run has come whose vsyncs a handler makes: what it reported is what the records say, and what it keeps is what waits.
 use Rattle.std.specs.Prelude.{◌≡◌, ℕ, Bool, true, false, List, [], ◌∷◌, ◌++◌, map, is_some}
 use Rattle.std.specs.List.{All, find}
 use Rattle.sf_base.specs.declared.fences.Seen.{Seen}
@@ -9,7 +9,7 @@ use Rattle.sf_commit.specs.sf_token.Pending.{Arrival, IsRisingFrom, has_number}
 use Rattle.sf_compose.specs.sf_tree.Trees.{TreeOf}
 use Rattle.sf_commit.specs.Handlers.{HandlerOf}
 use Rattle.sf_commit.specs.OnLayers.{OnLayer}
-use Rattle.sf_commit.specs.Releases.{ReleaseOf, VsyncOf}
+use Rattle.sf_commit.specs.Releases.{ReleaseOf, CommittedOf}
 use Rattle.sf_script_scene.specs.Scene.{SceneValue}
 use Rattle.sf_actor.specs.Names.{FrameOf}
 use Rattle.sf_actor.specs.Written.{FrameNumber}
@@ -46,8 +46,8 @@ is_time other = false
 abbrev pub held_shown : ℕ × Hold → HeldEntry
 held_shown held = hold_shown held.0 held.1
 
--- the record of a vsync says what the handler told
-pub record SaysVsync {L : Type 0} (vsync : VsyncRecords) (told : VsyncOf L) (seen : Seen) (expected : ℕ) : Type 0 where
+-- the record of a vsync says what the handler reported
+pub record SaysVsync {L : Type 0} (vsync : VsyncRecords) (told : CommittedOf L) (seen : Seen) (expected : ℕ) : Type 0 where
   pub commits : vsync.commits ≡ map commit_shown told.commits
   pub due : vsync.expected ≡ expected
   pub saw : seen_by vsync ≡ seen
@@ -69,7 +69,7 @@ module _ {L : Type 0} (frame : L → FrameOf) where
   abbrev pub ShowsWhatIsWritten : (L → Bool) → List FrameNumber → List (Arrival L) → Type 0
   ShowsWhatIsWritten shown written looked = AllLeases (λ l. shown l ≡ is_written written (frame l)) looked
 
--- what is told goes on by one vsync: its record, the tree that it leaves, and the frames that go with it
+-- the record of the vsyncs goes on by one: its own record, the tree that it leaves, and the frames that go with it
 pub record GoesOnBy (told later : List VsyncAt) (vsync : VsyncRecords) (tree : TreeOf) (gone : List (OnLayer FrameOf)) : Type 0 where
   pub at : VsyncAt
   pub joined : later ≡ told ++ at ∷ []

@@ -93,7 +93,7 @@ unfoldable pub with_calls : SceneValue → ℕ → ℕ → Run → List Asked �
 with_calls scene by place run [] = run
 with_calls scene by place run (asked ∷ later) = with_calls scene by place (with_call scene by place run asked) later
 
--- an actor's next step now: its place, and what its steps before tell
+-- an actor's next step now: its place, and what its steps before say
 abbrev pub at_now : RunState → ActorScript → Done → DoneAt
 at_now state script done = record { place = length (state.run.trace script.number) + 1; past = past_after (state.run.trace script.number); done = done }
 

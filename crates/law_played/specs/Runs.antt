@@ -63,7 +63,7 @@ calls_of caller calls = filter (λ entry. entry.caller.0 == caller) (reverse cal
 abbrev pub is_sent_by : ℕ → Arrival FrameOf → Bool
 is_sent_by actor arrived = arrived.actor.0 == actor
 
--- what is one actor's: its calls on each queue; its arrivals, with their numbers or, where no place is told, with 0; and the
+-- what is one actor's: its calls on each queue; its arrivals, with their numbers or, where no place is reported, with 0; and the
 -- final values
 abbrev pub own_in : Bool → Run → List (Arrival FrameOf) → Seen → ℕ → OwnOf
 own_in tells run arrivals final actor = record {
@@ -74,7 +74,7 @@ own_in tells run arrivals final actor = record {
 
 -- Traces. Each actor's is one of its script: each step is answered as the table of steps says after those before it, where
 -- it waited for points they are signalled in the end, and the actor's calls and arrivals are those of these steps, in order.
--- A step that sends is answered by the number of its arrival, or by 0 where no place is told.
+-- A step that sends is answered by the number of its arrival, or by 0 where no place is reported.
 abbrev pub IsTraced : Bool → SceneValue → Run → List (Arrival FrameOf) → ActorScript → Type 0
 IsTraced tells scene run arrivals script =
     let trace = run.trace script.number in

@@ -18,7 +18,7 @@ pub record HasSeen (scene : SceneValue) (signals : List (ℕ × ℕ)) (vsyncs : 
   pub numbers : All (λ vsync. vsync.number ≤ number) vsyncs
   pub values : All (λ vsync. All (λ t. t.value ≤ value_of seen.values t.timeline) vsync.timelines) vsyncs
 
--- the record of a vsync tells its time and what was seen of the declared timelines, each 0 or signalled; and it committed something
+-- the record of a vsync says its time and what was seen of the declared timelines, each 0 or signalled; and it committed something
 pub record TellsTime (scene : SceneValue) (signals : List (ℕ × ℕ)) (vsync : VsyncRecords) (seen : Seen) : Type 0 where
   pub from_1 : 0 < vsync.number
   pub due : vsync.expected ≡ vsync.number * scene.period

@@ -11,7 +11,7 @@ use Rattle.sf_actor.specs.Names.{FrameOf}
 use Rattle.sf_record.specs.declared.event.VsyncRecords.{VsyncRecords}
 use Rattle.sf_record.specs.declared.record.CommitRecord.{CommitRecord}
 
--- before the first vsync: no layers, and nothing was ever committed. What is pending is not told here.
+-- before the first vsync: no layers, and nothing was ever committed. What is pending is not said here.
 abbrev pub bare_round : SceneValue → Round FrameOf
 bare_round scene = record {
   stage = record { tree = record { layers = []; most = most_layers scene.version }; on = []; commits = []; gone = [] };

@@ -1,4 +1,4 @@
--- Who is stuck, of actors over a desk: what tells that the turn of a draw has not come.
+-- Who is stuck, of actors over a desk: what shows that the turn of a draw has not come.
 use Rattle.std.specs.Prelude.{◌≡◌, ℕ, ◌+◌, nat_lt, true, if◌then◌else◌, List, [], ◌∷◌, length, Some}
 use Rattle.std.specs.List.{flat_map}
 use Rattle.sf_base.specs.Fences.{Fence}
@@ -22,7 +22,8 @@ module _ {B : Type 0} where
   abbrev pub stuck_among : List (ActorOf B) → List StuckEntry
   stuck_among ofs = flat_map entry_if ofs
 
-  -- where a look showed that an earlier turn at the pixels of what is to be drawn has not left, an older draw is owed
+  -- where a look showed that an earlier turn at the pixels of what is to be drawn has not left, an older draw is owed; this
+  -- needs the rights of all actors at once
   pub record TellsOlder (scene : SceneValue) (run : Run) (of : ActorOf B) (before after : DeskView B) : Type 0 where
     pub owed : (name : ℕ) (held : Holding B) (fence : Fence) → held_in of.parts name ≡ Some held → undrawn_fence (Some (token_of held)) ≡ Some fence
         → IsShort (turn_held held).0 (turn_held held).1 before.turns after.turns → has_older scene run (token_of held) ≡ true

@@ -20,7 +20,7 @@ ghost use Rattle.law_played.specs.Runs.{AreTraced};
 
 use sf_actor::TableName;
 
-/// Over a desk that knows all that happened, the actors of a scene tell a run that is traced: each
+/// Over a desk that knows all that happened, the actors of a scene have a run that is traced: each
 /// actor's trace is one of its script, and its calls and arrivals are those of its steps.
 pub fn actors_are_traced<B: TableName>()
     ensures { (scene : SceneValue) (ofs : List (ActorOf B)) (home : DeskHome) (view : DeskView B)

@@ -14,8 +14,9 @@ ghost use Rattle.law_played.specs.Stuck.{AreStuck, IsNotReady, next_step};
 
 use sf_actor::TableName;
 
-/// An actor whose step was left over an exact desk is not ready at it, in the run that is told then:
-/// no own test refuses the step, and a point is open, an older draw is owed, or no slot is free.
+/// An actor whose step was left over an exact desk is not ready at it, in the run of the actors
+/// then: no own test refuses the step, and a point is open, an older draw is owed, or no slot is
+/// free.
 pub fn a_step_that_was_left_is_not_ready<B: TableName>()
     ensures { (scene : SceneValue) (ofs : List (ActorOf B)) (home : DeskHome) (before after : DeskView B) (old new : ActorOf B)
         → IsWithinLimits scene → home.is_exact ≡ true → AreActors scene ofs home after → AreCalls scene ofs home after

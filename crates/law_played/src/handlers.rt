@@ -15,7 +15,7 @@ ghost use Rattle.sf_compose.specs.sf_tree.Trees.{TreeOf};
 ghost use Rattle.sf_commit.specs.Handlers.{Decides, HandlerOf, last_of, new_handler};
 ghost use Rattle.sf_commit.specs.Lending.{KeptRead};
 ghost use Rattle.sf_commit.specs.OnLayers.{OnLayer, at_hand, lent_from};
-ghost use Rattle.sf_commit.specs.Releases.{VsyncOf};
+ghost use Rattle.sf_commit.specs.Releases.{CommittedOf};
 ghost use Rattle.sf_script_scene.specs.Scene.{SceneValue};
 ghost use Rattle.sf_actor.specs.Known.{AreAmong, Rise, frame_of, plain_arrival};
 ghost use Rattle.sf_actor.specs.Names.{FrameOf};
@@ -44,24 +44,26 @@ pub fn a_new_handler_has_played_nothing<L: Lease>()
         → HasPlayed frame scene written [] [] (new_handler width height (most_layers scene.version)) }
 {}
 
-/// A vsync of a handler that has played so far is told by its record: its commits are in order and
-/// ready, and say their results, where what its looks showed to be written is written.
+/// A vsync of a handler that has played so far is as its record says: its commits are in order and
+/// ready, and say their results, where what its looks showed to be written is written. What held a
+/// transaction before it was committed in the same vsync was a barrier or backpressure, which do
+/// not depend on what is written.
 pub fn a_vsync_is_told<L: Lease>()
     ensures { (frame : L → FrameOf) → ((a b : L) → L.plain a ≡ L.plain b → frame a ≡ frame b)
         → (scene : SceneValue) (written : List FrameNumber) (arrivals : List (Arrival FrameOf)) (vsyncs : List VsyncRecords)
-        (old new : HandlerOf L) (eye later : L.Eye) (arrived : List (Arrival L)) (seen : SeenValue) (expected : ℕ) (told : VsyncOf L)
+        (old new : HandlerOf L) (eye later : L.Eye) (arrived : List (Arrival L)) (seen : SeenValue) (expected : ℕ) (told : CommittedOf L)
         → HasPlayed frame scene written arrivals vsyncs old → (d : Decides L.Lease old eye arrived seen expected told new later)
         → IsRisingFrom old.last arrived (last_of old.last arrived)
         → (report : VsyncRecords) → SaysVsync report told seen expected → WroteWhatShows frame L.shown written d.looked
         → HasPlayed frame scene written (arrivals ++ map (framed_arrival frame) arrived) (vsyncs ++ report ∷ []) new }
 {}
 
-/// What is told of the vsyncs goes on by that one, with the tree that it leaves and the frames that
+/// The record of the vsyncs goes on by that one, with the tree that it leaves and the frames that
 /// go with it.
 pub fn a_vsync_adds_its_round<L: Lease>()
     ensures { (frame : L → FrameOf) → ((a b : L) → L.plain a ≡ L.plain b → frame a ≡ frame b)
         → (scene : SceneValue) (written : List FrameNumber) (arrivals : List (Arrival FrameOf)) (vsyncs : List VsyncRecords)
-        (old new : HandlerOf L) (eye later : L.Eye) (arrived : List (Arrival L)) (seen : SeenValue) (expected : ℕ) (told : VsyncOf L)
+        (old new : HandlerOf L) (eye later : L.Eye) (arrived : List (Arrival L)) (seen : SeenValue) (expected : ℕ) (told : CommittedOf L)
         → HasPlayed frame scene written arrivals vsyncs old → (d : Decides L.Lease old eye arrived seen expected told new later)
         → IsRisingFrom old.last arrived (last_of old.last arrived)
         → (report : VsyncRecords) → SaysVsync report told seen expected
@@ -69,12 +71,12 @@ pub fn a_vsync_adds_its_round<L: Lease>()
         new.tree (map (framed_on frame) d.end.stage.gone) }
 {}
 
-/// A vsync that commits nothing has no record: what is told of the vsyncs stays, and the handler has
+/// A vsync that commits nothing has no record: that of the vsyncs before stays, and the handler has
 /// played so far still. It releases nothing.
 pub fn a_silent_vsync_is_told<L: Lease>()
     ensures { (frame : L → FrameOf) → ((a b : L) → L.plain a ≡ L.plain b → frame a ≡ frame b)
         → (scene : SceneValue) (written : List FrameNumber) (arrivals : List (Arrival FrameOf)) (vsyncs : List VsyncRecords)
-        (old new : HandlerOf L) (eye later : L.Eye) (arrived : List (Arrival L)) (seen : SeenValue) (expected : ℕ) (told : VsyncOf L)
+        (old new : HandlerOf L) (eye later : L.Eye) (arrived : List (Arrival L)) (seen : SeenValue) (expected : ℕ) (told : CommittedOf L)
         → HasPlayed frame scene written arrivals vsyncs old → Decides L.Lease old eye arrived seen expected told new later
         → IsRisingFrom old.last arrived (last_of old.last arrived) → told.commits ≡ []
         → HasPlayed frame scene written (arrivals ++ map (framed_arrival frame) arrived) vsyncs new
@@ -83,11 +85,11 @@ pub fn a_silent_vsync_is_told<L: Lease>()
 {}
 
 /// The last vsync commits nothing, no time holds a transaction, and its looks show what is written:
-/// then what it tells as held is what is held at the end.
+/// then what it reports as held is what is held at the end.
 pub fn the_end_is_held<L: Lease>()
     ensures { (frame : L → FrameOf) → ((a b : L) → L.plain a ≡ L.plain b → frame a ≡ frame b)
         → (scene : SceneValue) (written : List FrameNumber) (arrivals : List (Arrival FrameOf)) (vsyncs : List VsyncRecords)
-        (old new : HandlerOf L) (eye later : L.Eye) (arrived : List (Arrival L)) (seen : SeenValue) (expected : ℕ) (told : VsyncOf L)
+        (old new : HandlerOf L) (eye later : L.Eye) (arrived : List (Arrival L)) (seen : SeenValue) (expected : ℕ) (told : CommittedOf L)
         → HasPlayed frame scene written arrivals vsyncs old → (d : Decides L.Lease old eye arrived seen expected told new later)
         → IsRisingFrom old.last arrived (last_of old.last arrived) → told.commits ≡ []
         → All (λ (h : ℕ × HoldValue). is_time h.1 ≡ false) told.held → ShowsWhatIsWritten frame L.shown written d.looked
@@ -103,7 +105,7 @@ pub fn what_was_played_is_in_order<L: Lease>()
         → CommitInOrder arrivals written (commits_in vsyncs) (told_of scene arrivals vsyncs) }
 {}
 
-/// What is told of the vsyncs stays where more arrives.
+/// The record of the vsyncs stays where more arrives.
 pub fn more_may_arrive<L: Lease>()
     ensures { (frame : L → FrameOf) (scene : SceneValue) (written : List FrameNumber) (arrivals : List (Arrival FrameOf)) (vsyncs : List VsyncRecords)
         (handler : HandlerOf L) → HasPlayed frame scene written arrivals vsyncs handler
@@ -128,16 +130,16 @@ pub fn lending_plays_nothing<L: Lease>()
         → HasPlayed frame scene written arrivals vsyncs (record handler { on = map at_hand handler.on; lent = lent; kept = kept }) }
 {}
 
-/// The looks of a vsync show as written only what is written, where that holds of each write that the
-/// eye knows to have ended; and exactly what is written, where an exact eye's ends tell that.
+/// The looks of a vsync show as written only what is written, where that holds of each write that
+/// the eye knows to have ended; and exactly what is written, where an exact eye's ends say that.
 pub fn looks_show_what_is_written<L: Lease>()
     ensures known { (frame : L → FrameOf) (written : List FrameNumber)
-        (old new : HandlerOf L) (eye later : L.Eye) (arrived : List (Arrival L)) (seen : SeenValue) (expected : ℕ) (told : VsyncOf L)
+        (old new : HandlerOf L) (eye later : L.Eye) (arrived : List (Arrival L)) (seen : SeenValue) (expected : ℕ) (told : CommittedOf L)
         → (d : Decides L.Lease old eye arrived seen expected told new later)
         → AllLeases (λ l. L.knows later l → is_written written (frame l) ≡ true) d.looked
         → WroteWhatShows frame L.shown written d.looked }
     ensures exact { (frame : L → FrameOf) (written : List FrameNumber)
-        (old new : HandlerOf L) (eye later : L.Eye) (arrived : List (Arrival L)) (seen : SeenValue) (expected : ℕ) (told : VsyncOf L)
+        (old new : HandlerOf L) (eye later : L.Eye) (arrived : List (Arrival L)) (seen : SeenValue) (expected : ℕ) (told : CommittedOf L)
         → (d : Decides L.Lease old eye arrived seen expected told new later) → L.is_exact (L.mark eye) ≡ true
         → AllLeases (λ l. L.tells (L.ends eye) (L.end l) ≡ is_written written (frame l)) d.looked
         → ShowsWhatIsWritten frame L.shown written d.looked }
@@ -146,12 +148,12 @@ pub fn looks_show_what_is_written<L: Lease>()
 /// The releases of a vsync give back the frames that go, in their order.
 pub fn releases_give_back_what_goes<L: Lease>()
     ensures { (frame : L → FrameOf) → ((a b : L) → L.plain a ≡ L.plain b → frame a ≡ frame b)
-        → (old new : HandlerOf L) (eye later : L.Eye) (arrived : List (Arrival L)) (seen : SeenValue) (expected : ℕ) (told : VsyncOf L)
+        → (old new : HandlerOf L) (eye later : L.Eye) (arrived : List (Arrival L)) (seen : SeenValue) (expected : ℕ) (told : CommittedOf L)
         → (d : Decides L.Lease old eye arrived seen expected told new later)
         → AllZip (GivesBack frame) (map (framed_on frame) d.end.stage.gone) told.releases }
 {}
 
-/// Where what is told goes on by a vsync, so do the frames that were released, and the images that
+/// Where the record goes on by a vsync, so do the frames that were released, and the images that
 /// were shown.
 pub fn what_is_told_goes_on()
     ensures releases { (told later : List VsyncAt) (report : VsyncRecords) (tree : TreeOf) (gone : List (OnLayer FrameOf))
@@ -193,8 +195,8 @@ pub fn numbered_arrivals_rise<L: Lease>()
         → IsRisingFrom (length earlier) arrived (last_of (length earlier) arrived) × (last_of (length earlier) arrived ≡ length (earlier ++ arrived)) }
 {}
 
-/// A read lease tells its frame by what stays of it where it is handed on; and an arrival with frames
-/// in the place of its read leases is the plain one.
+/// A read lease names its frame by what stays of it where it is handed on; and an arrival with
+/// frames in the place of its read leases is the plain one.
 pub fn read_leases_tell_their_frames()
     ensures plain { (a b : ReadLeaseOf) → plain_lease a ≡ plain_lease b → frame_of a ≡ frame_of b }
     ensures arrivals { (arrived : List (Arrival ReadLeaseOf)) → map (framed_arrival frame_of) arrived ≡ map plain_arrival arrived }

@@ -35,7 +35,7 @@ pub use plays::{
     a_step_is_the_next_of_a_play, a_vsync_is_the_next_of_a_play, the_least_scene_has_a_play,
 };
 pub use sf_actor::{HistEntry, QueueObject, ReadLease, Reply, Stepped, Stock, TableName, TurnSeat};
-pub use sf_commit::{ArrvEntry, Commit, Handler, Hold, Lease, Release, Vsync};
+pub use sf_commit::{ArrvEntry, Commit, Committed, Handler, Hold, Lease, Release};
 pub use sf_compose::{Content, Drawn, Shown, View};
 pub use sf_output_plan::{CapturePlan, DisplayPlan, HitPlan, Plan, ViewsDue, views_due};
 pub use sf_record::sf_output::Output;

@@ -8,7 +8,7 @@ ghost use Rattle.sf_actor.specs.sf_surface.declared.call.QCall.TheVariants as ca
 ghost use Rattle.sf_actor.specs.sf_surface.declared.call.QReply.{QReply};
 ghost use Rattle.sf_commit.specs.sf_token.Pending.{Arrival, IsRisingFrom};
 ghost use Rattle.sf_commit.specs.Handlers.{Decides, HandlerOf, last_of};
-ghost use Rattle.sf_commit.specs.Releases.{VsyncOf};
+ghost use Rattle.sf_commit.specs.Releases.{CommittedOf};
 ghost use Rattle.sf_script_scene.specs.Limits.{IsWithinLimits};
 ghost use Rattle.sf_script_scene.specs.Scene.{SceneValue, has_queue};
 ghost use Rattle.sf_script_scene.specs.declared.declarations.QueueDecl.{QueueDecl as DeclaredQueue};
@@ -62,7 +62,7 @@ pub fn the_least_scene_has_a_play()
 pub fn a_vsync_is_the_next_of_a_play<L: Lease>()
     ensures { (frame : L → FrameOf) → ((a b : L) → L.plain a ≡ L.plain b → frame a ≡ frame b)
         → (scene : SceneValue) (run : Run) (number : ℕ) (arrivals : List (Arrival FrameOf)) (vsyncs : List VsyncRecords)
-        (old new : HandlerOf L) (eye later : L.Eye) (arrived : List (Arrival L)) (told : VsyncOf L)
+        (old new : HandlerOf L) (eye later : L.Eye) (arrived : List (Arrival L)) (told : CommittedOf L)
         → HasPlayed frame scene (written_in scene run) arrivals vsyncs old
         → (d : Decides L.Lease old eye arrived (final_values scene run) ((number + 1) * scene.period) told new later)
         → IsRisingFrom old.last arrived (last_of old.last arrived) → ShowsWhatIsWritten frame L.shown (written_in scene run) d.looked
@@ -87,8 +87,8 @@ pub fn a_step_is_the_next_of_a_play()
         → IsNotReady scene state.run script (Some s) → actor_transition scene script.number state ≡ idle state }
 {}
 
-/// Over an exact desk that tells places a step that an actor does is its next transition of the play, where a buffer whose
-/// earlier turns have all left has no older draw that is owed.
+/// Over an exact desk that reports places a step that an actor does is its next transition of the
+/// play, where a buffer whose earlier turns have all left has no older draw that is owed.
 pub fn a_done_step_is_a_transition<B: TableName>()
     ensures { (scene : SceneValue) (ofs : List (ActorOf B)) (home : DeskHome) (before after : DeskView B) (place : ℕ) (old new : ActorOf B) (reply : Reply)
         (reports : List VsyncRecords) (vsyncs : ℕ)

@@ -47,8 +47,8 @@ pub fn calls_are_histories<B: TableName>()
 {}
 
 /// At the end of a run of the actors of a scene over a desk that knows all that happened, where
-/// draws came in turn, what is shown fits the run that they tell, as far as the vsyncs, their commits
-/// and frames, what is held and who is stuck do.
+/// draws came in turn, what is shown fits their run, as far as the vsyncs, their commits and
+/// frames, what is held and who is stuck do.
 pub fn what_actors_tell_fits<B: TableName>()
     ensures { (scene : SceneValue) (ofs : List (ActorOf B)) (home : DeskHome) (view : DeskView B) (shows : Shows)
         → IsWithinLimits scene → AreActors scene ofs home view → KnowsSignals scene ofs home view → AreCalls scene ofs home view → AreArrivals ofs view

@@ -15,7 +15,7 @@ use Rattle.sf_commit.specs.sf_calls.declared.fault.CallFault.TheVariants as faul
 use Rattle.sf_commit.specs.sf_calls.Calling.{IfFaultNoMemory, IfFaultNotYet}
 use Rattle.sf_commit.specs.sf_calls.Histories.{IsLegal}
 use Rattle.sf_commit.specs.Handlers.{Decides, HandlerOf, Stops}
-use Rattle.sf_commit.specs.Releases.{VsyncOf}
+use Rattle.sf_commit.specs.Releases.{CommittedOf}
 use Rattle.sf_commit.specs.sf_picture.declared.picture.Picture.{Picture}
 use Rattle.sf_actor_steps.specs.sf_script_scene.declared.step.ActorScript.{ActorScript}
 use Rattle.sf_actor_steps.specs.sf_slots.declared.calls.PlainReply.{PlainReply}
@@ -68,7 +68,7 @@ seat_goes_on old new made mark leaves keeps = record {
     still buffer = omega arith
 
 -- the ends that a vsync makes, whether it found memory or not
-pub vsync_ends : {R C : Type 0} (lease : Ghosts ReadLeaseOf SeatView R C) (old new : HandlerOf ReadLeaseOf) (eye after : SeatView) (arrived : List (Arrival ReadLeaseOf)) (seen : Seen) (expected : ℕ) (result : Result (VsyncOf ReadLeaseOf) NoMemory)
+pub vsync_ends : {R C : Type 0} (lease : Ghosts ReadLeaseOf SeatView R C) (old new : HandlerOf ReadLeaseOf) (eye after : SeatView) (arrived : List (Arrival ReadLeaseOf)) (seen : Seen) (expected : ℕ) (result : Result (CommittedOf ReadLeaseOf) NoMemory)
     → IfOk result (λ told. Decides lease old eye arrived seen expected told new after) → OnErr result (Stops lease old eye arrived seen expected new after) → (made : List (ℕ × ℕ)) × (lease.ends after ≡ lease.ends eye ++ made)
 vsync_ends lease old new eye after arrived seen expected (Ok told) decides stops = (_, decides.settled.reads.ends)
 vsync_ends lease old new eye after arrived seen expected (Err e) decides stops = (_, stops.reads.ends)

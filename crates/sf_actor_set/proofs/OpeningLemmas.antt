@@ -1,7 +1,7 @@
 -- Actors that have done nothing keep what they keep, each with its share of a stock.
 use Rattle.std.proofs.Common.{◌≡◌, ℕ, zero, suc, ◌+◌, ◌<◌, ◌≤◌, Bool, true, false, List, [], ◌∷◌, ◌++◌, length, take, drop, filter, map, cond, refl, ap, ◌∙◌, sym, subst, arith, append_assoc, get_or}
 use Rattle.std.specs.Prelude.{◌==◌}
-use Rattle.std.specs.List.{All, AllZip}
+use Rattle.std.specs.List.{AllZip}
 use Rattle.std.proofs.lemmas.List.{append-nil, drop_more, length-take-le, map-append, take-append-drop, take_more}
 use Rattle.std.proofs.lemmas.List.Sums.{count_by-le-length, length-filter, sum_by-cons}
 use Rattle.atomic_table.specs.Seated.{TableId}
@@ -62,9 +62,6 @@ rest_length (suc n) (b ∷ stock) l = let h = rest_length n stock (omega arith) 
 
 pub next_left : (scripts : List ActorScript) (done : ℕ) (script : ActorScript) → (done < length scripts) × (script ≡ get_or scripts done script) → drop done scripts ≡ script ∷ drop (done + 1) scripts
 next_left scripts done script h = drop_more scripts done script h.0 ∙ ap (λ (s : ActorScript). s ∷ drop (done + 1) scripts) (sym h.1)
-
-pub next_few : (scripts : List ActorScript) (done : ℕ) (script : ActorScript) → (done < length scripts) × (script ≡ get_or scripts done script) → All (λ (s : ActorScript). length s.steps ≤ 4096) scripts → length script.steps ≤ 4096
-next_few scripts done script h few = subst (λ (s : ActorScript). length s.steps ≤ 4096) (sym h.1) (few done script h.0)
 
 pub map_more : {A C : Type 0} (f : A → C) (xs : List A) (made : List C) (i : ℕ) (d : A) (b : C) → i < length xs → made ≡ map f (take i xs) → b ≡ f (get_or xs i d) → made ++ b ∷ [] ≡ map f (take (i + 1) xs)
 map_more {A} {C} f xs made i d b below same is =
@@ -156,12 +153,6 @@ module _ {B : Type 0} where
         enough = omega (arith, left, all, enough, shorter, same);
         fills = subst (λ (as' : List (Actor B)). Fills table scripts stock as' (drop (done + 1) scripts) after) (sym pushed) more;
       }
-
-  pub opening_first : (table : TableId) (scripts : List ActorScript) (stock : List ℕ) (none : List (Actor B)) → none ≡ [] → permits_of scripts ≤ length stock → IsOpening table scripts stock 0 none stock
-  opening_first table scripts stock none empty enough = record {
-    enough = enough;
-    fills = subst (λ (as' : List (Actor B)). Fills table scripts stock as' scripts stock) (sym empty) (λ more new. new);
-  }
 
   pub opening_last : (table : TableId) (scripts : List ActorScript) (stock : List ℕ) (done : ℕ) (actors : List (Actor B)) (rest : List ℕ) → done ≡ length scripts → IsOpening table scripts stock done actors rest → AllZip (IsActor table) actors (new_actors scripts stock)
   opening_last table scripts stock done actors rest whole is =

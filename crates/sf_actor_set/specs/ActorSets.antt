@@ -87,7 +87,7 @@ module _ {B : Type 0} where
 
   module _ (table : TableId) (queues : List QueueDecl) (pictures : List Picture) (scripts : List ActorScript) where
     -- an actor set that has done nothing, over queues that were not called, no arrivals, timelines that nobody raised, and the seat
-    -- at the turns; its desk tells places
+    -- at the turns; its desk reports places
     pub record Opens (seat : SeatView) (stock : List ℕ) (actor_set : ActorSetOf B) : Type 0 where
       pub same_pictures : actor_set.pictures ≡ pictures
       pub queues_opened : OpensQueues queues actor_set.desk.queues

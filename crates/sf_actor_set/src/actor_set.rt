@@ -13,7 +13,7 @@ use sf_actor_steps::{
     Timelines, TurnSeat,
 };
 use sf_base::{Items, NoMemory, Seen};
-use sf_commit::{Arrivals, Arrived, Handler, Lease, Painted, Picture, Release, Vsync};
+use sf_commit::{Arrivals, Arrived, Committed, Handler, Lease, Painted, Picture, Release};
 use std::alloc::Global;
 use std::marker::Model;
 
@@ -182,21 +182,21 @@ impl<B: TableName> ActorSet<B> {
         tried
     }
 
-    /// Tells that the desk knows all that happened. It does nothing.
+    /// States that the desk knows all that happened. It does nothing.
     pub fn exact(&self)
         ensures { KnowsAll (view_of self.now.desk) }
     {
         self.desk.exact();
     }
 
-    /// Tells that each reply of a queue is what its calls before say. It changes nothing.
+    /// States that each reply of a queue is what its calls before say. It changes nothing.
     pub fn legal(&self)
         ensures { (queue : ℕ) → IsLegal (Answers (mark_among (home_of self.now.desk).marks queue)) ((view_of self.now.desk).calls queue) }
     {
         legal_each(&self.desk.queues);
     }
 
-    /// Tells that the desk's seat at the turns is at the named table. It changes nothing.
+    /// States that the desk's seat at the turns is at the named table. It changes nothing.
     pub fn owns(&self)
         ensures { self.now.desk.turns.table ≡ B.table }
     {
@@ -212,7 +212,7 @@ impl<B: TableName> ActorSet<B> {
         see_at(&mut self.desk)
     }
 
-    /// Takes the transactions that arrived since the last one was taken, in order. Want of memory
+    /// Takes the transactions that arrived since the last one was taken, in order. Out of memory
     /// leaves them.
     pub fn take(&mut self) -> Result<Vec<Arrived<ReadLease<B>>>, NoMemory>
         ensures taken { IfOk result (λ batch. Takes self.old.desk.arrivals self.new.desk.arrivals batch.items) }
@@ -232,7 +232,7 @@ impl<B: TableName> ActorSet<B> {
         arrived: Vec<Arrived<ReadLease<B>>>,
         seen: &Seen,
         expected: u64,
-    ) -> Result<Vsync<ReadLease<B>>, NoMemory>
+    ) -> Result<Committed<ReadLease<B>>, NoMemory>
         requires rising { handler.old.is_spent ≡ false → IsRisingFrom handler.old.last arrived.items (last_of handler.old.last arrived.items) }
         ensures decides { IfOk result (λ told. Decides ⟦<ReadLease<B> as Lease>⟧ handler.old self.old.desk.turns arrived.items seen.now expected told
             handler.new self.new.desk.turns) }
@@ -245,9 +245,9 @@ impl<B: TableName> ActorSet<B> {
         vsync_at(&mut self.desk, handler, arrived, seen, expected)
     }
 
-    /// Gives a frame back to its queue after a vsync. It is a call of the compositor, whose number is
-    /// 0, for the vsync of this number. A frame that the queue refuses is dropped. For want of memory
-    /// nothing was done but that the frame is dropped.
+    /// Gives a frame back to its queue after a vsync. It is a call of the compositor, whose number
+    /// is 0, for the vsync of this number. A frame that the queue refuses is dropped. Where memory
+    /// runs out nothing was done but that the frame is dropped.
     pub fn release(&mut self, vsync: u32, release: Release<ReadLease<B>>) -> Result<(), NoMemory>
         requires there { has_queue (home_of self.old.desk) release.queue.0 ≡ true }
         ensures released { IfOk result (λ _. (reply : ReplyOf B)

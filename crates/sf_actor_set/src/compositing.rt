@@ -18,8 +18,8 @@ ghost use Rattle.sf_commit.specs.sf_token.Pending.{IsRisingFrom};
 use sf_actor_steps::{Desk, PlainDesk, QCall, QueueObject, ReadLease, TableName, TurnSeat, settle};
 use sf_base::{ActorId, NoMemory, Seen};
 use sf_commit::{
-    Arrivals, ArriveCall, ArriveReply, Arrived, Batch, Handler, Lease, Object, Outcome, Painted,
-    Release, Vsync,
+    Arrivals, ArriveCall, ArriveReply, Arrived, Batch, Committed, Handler, Lease, Object, Outcome,
+    Painted, Release,
 };
 use std::marker::Brand;
 
@@ -35,7 +35,7 @@ pub fn see_at<B: TableName>(desk: &mut PlainDesk<B>) -> Seen
     desk.times.see_all(&desk.table)
 }
 
-/// Tells of each queue that its calls are legal. It does nothing: each queue keeps this of itself.
+/// States that each queue's calls are legal. It does nothing: each queue keeps this of itself.
 pub fn legal_each<B: TableName>(queues: &[QueueObject<B>])
     ensures { All (λ (object : ObjectOf B). IsLegal (Answers (mark_of object)) object.calls) queues.now }
 {
@@ -44,7 +44,7 @@ pub fn legal_each<B: TableName>(queues: &[QueueObject<B>])
     }
 }
 
-/// Tells that the desk's seat at the turns is at the named table. It does nothing.
+/// States that the desk's seat at the turns is at the named table. It does nothing.
 pub fn owns_at<B: TableName>(desk: &PlainDesk<B>)
     ensures { desk.now.turns.table ≡ B.table }
 {
@@ -72,7 +72,7 @@ fn take_from<B: TableName>(
     }
 }
 
-/// Takes the transactions that arrived. Want of memory leaves them.
+/// Takes the transactions that arrived. Out of memory leaves them.
 pub fn take_at<B: TableName>(
     desk: &mut PlainDesk<B>,
 ) -> Result<Vec<Arrived<ReadLease<B>>>, NoMemory>
@@ -91,7 +91,7 @@ fn vsync_through<B: TableName>(
     arrived: Vec<Arrived<ReadLease<B>>>,
     seen: &Seen,
     expected: u64,
-) -> Result<Vsync<ReadLease<B>>, NoMemory>
+) -> Result<Committed<ReadLease<B>>, NoMemory>
     requires own { turns.old.table ≡ B.table }
     requires rising { handler.old.is_spent ≡ false → IsRisingFrom handler.old.last arrived.items (last_of handler.old.last arrived.items) }
     ensures decides { IfOk result (λ told. Decides ⟦<ReadLease<B> as Lease>⟧ handler.old turns.old arrived.items seen.now expected told handler.new turns.new) }
@@ -99,7 +99,7 @@ fn vsync_through<B: TableName>(
     ensures again { handler.old.is_spent ≡ true → IsErr result }
     ensures goes { SeatGoesOn turns.old turns.new }
 {
-    handler.vsync(turns, arrived, seen, expected)
+    handler.commit(turns, arrived, seen, expected)
 }
 
 /// A handler's vsync with the desk's seat at the turns as its eye.
@@ -109,7 +109,7 @@ pub fn vsync_at<B: TableName>(
     arrived: Vec<Arrived<ReadLease<B>>>,
     seen: &Seen,
     expected: u64,
-) -> Result<Vsync<ReadLease<B>>, NoMemory>
+) -> Result<Committed<ReadLease<B>>, NoMemory>
     requires rising { handler.old.is_spent ≡ false → IsRisingFrom handler.old.last arrived.items (last_of handler.old.last arrived.items) }
     ensures decides { IfOk result (λ told. Decides ⟦<ReadLease<B> as Lease>⟧ handler.old desk.old.turns arrived.items seen.now expected told handler.new desk.new.turns) }
     ensures stops { OnErr result (Stops ⟦<ReadLease<B> as Lease>⟧ handler.old desk.old.turns arrived.items seen.now expected handler.new desk.new.turns) }

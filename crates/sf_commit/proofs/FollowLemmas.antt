@@ -1,20 +1,14 @@
 -- What arrived, was looked at and decided is one vsync.
-use Rattle.std.proofs.Common.{◌≡◌, ℕ, ◌+◌, cond, not, nat_lt, Some, None, ◌<◌, ◌≤◌, Bool, true, false, List, [], ◌∷◌, ◌++◌, map, get_or, refl, sym, subst, arith}
+use Rattle.std.proofs.Common.{◌≡◌, ℕ, ◌+◌, ◌<◌, ◌≤◌, Bool, true, false, List, [], ◌∷◌, ◌++◌, map, get_or, refl, sym, subst, arith}
 use Rattle.std.specs.Prelude.{◌==◌}
-use Rattle.std.specs.List.{All, AllZip, position_or_len}
-use Rattle.std.specs.Option.{unwrap_or}
+use Rattle.std.specs.List.{All, AllZip}
 use Rattle.std.proofs.lemmas.Bool.{eqb-true, eq-eqb}
-use Rattle.std.proofs.lemmas.List.{length-map}
 use Rattle.std.proofs.lemmas.List.Elements.{All-cons, All-nil}
 use Rattle.sf_commit_next.specs.sf_token.Loads.{IsLookedArrival, looks_at, looks_of}
 use Rattle.sf_commit_next.specs.sf_token.Pending.{Arrival, IsRisingFrom}
 use Rattle.sf_commit_next.specs.sf_token.declared.looks.Looks.{Looks}
 use Rattle.sf_commit_next.specs.sf_txn.declared.lease.Lease.{Ghosts}
-use Rattle.sf_base.specs.declared.ids.LayerId.{LayerId}
-use Rattle.sf_view.specs.declared.drawn.Drawn.{Drawn}
-use Rattle.sf_commit.specs.Handlers.{source_of}
 use Rattle.sf_commit_next.specs.Next.{AreRising, IsLookedAt, drawn_for}
-use Rattle.sf_commit.specs.OnLayers.{OnLayer, is_on, shown_on}
 
 module _ {L : Type 0} where
   pub lower : (less before last : ℕ) (xs : List (Arrival L)) → less ≤ before → IsRisingFrom before xs last → IsRisingFrom less xs last
@@ -60,13 +54,3 @@ module _ {L E R C : Type 0} (lease : Ghosts L E R C) where
   looked_all before last (x ∷ xs) h =
       All-cons (IsLookedAt lease.shown (looks_of lease (x ∷ xs))) x xs (record { same = rw (eq-eqb x.number x.number refl) refl })
       (λ k d lt. one_more x (get_or xs k d) (looks_of lease xs) (beyond x.number last xs h.1 k d lt) (looked_all x.number last xs h.1 k d lt))
-
-module _ {L : Type 0} where
-  -- what was read stands where it stood
-  index_read : (layer : LayerId) (on : List (OnLayer L)) → position_or_len (is_on layer) (map shown_on on) ≡ position_or_len (is_on layer) on
-  index_read layer [] = refl
-  index_read layer (x ∷ xs) = λ j. cond (not (is_on layer x)) (1 + index_read layer xs j) 0
-
-  pub sources_read : (on : List (OnLayer L)) (drawn : List Drawn) → map (source_of (map shown_on on)) drawn ≡ map (source_of on) drawn
-  sources_read on [] = refl
-  sources_read on (d ∷ ds) = λ i. unwrap_or (cond (nat_lt (index_read d.layer on i) (length-map on shown_on i)) (Some (index_read d.layer on i)) None) 0 ∷ sources_read on ds i

@@ -15,7 +15,6 @@ use Rattle.sf_commit_next.specs.sf_txn.Buffers.{Buffer}
 use Rattle.sf_commit_next.specs.sf_txn.Leases.{IsEyeAfter, IsLookedBuffer, IsShownTo}
 use Rattle.sf_commit_next.specs.sf_txn.Transactions.{without_first}
 use Rattle.sf_commit_next.specs.sf_txn.declared.lease.Lease.{Ghosts}
-use Rattle.sf_view.specs.Views.{ViewOf, Views}
 use Rattle.sf_commit.proofs.DecideLemmas.{all_left}
 use Rattle.sf_commit.proofs.FollowLemmas.{lower, rising_append, rising_looked}
 use Rattle.sf_commit.proofs.KnownLemmas.{Holds, holds_along}
@@ -23,11 +22,11 @@ use Rattle.sf_commit.proofs.LendLemmas.{many_along, placed_on, there_after, ther
 use Rattle.sf_commit.proofs.SettleLemmas.{reads-append, then_after}
 use Rattle.sf_commit.proofs.StandingAlong.{stands_decided}
 use Rattle.sf_commit.specs.inner.Following.{DecidesAll, SettlesAll, begun_with}
-use Rattle.sf_commit.specs.Handlers.{AreToGo, Decides, FitsHandler, HandlerOf, IsHandler, IsKept, Stops, last_of, lent_pixels, source_of}
+use Rattle.sf_commit.specs.Handlers.{AreToGo, Decides, FitsHandler, HandlerOf, IsHandler, IsKept, Stops, last_of, lent_pixels}
 use Rattle.sf_commit.specs.Leases.{AllOn, IsKnownOn, IsReleaseOf, here_if, pictures, pictures_here}
 use Rattle.sf_commit.specs.Lending.{AllKept, AreThere, IsThere, KeepsSome, KeptRead, ends_of, is_at, kept_if, left_if, read_of, reads_of}
 use Rattle.sf_commit.specs.OnLayers.{OnLayer, brought, shown_on}
-use Rattle.sf_commit.specs.Releases.{ReleaseOf, VsyncOf}
+use Rattle.sf_commit.specs.Releases.{ReleaseOf, CommittedOf}
 use Rattle.sf_commit.specs.Rounds.{Leads, Round, StageOf, committed}
 use Rattle.sf_commit.specs.Standing.{Stands}
 
@@ -428,15 +427,15 @@ module _ {L E R C : Type 0} (lease : Ghosts L E R C) where
 
   -- a vsync between two handlers: what was decided, and what was settled of it
   pub record Makes (old : HandlerOf L) (facts : FactsOf) (q : QueuesOf L) (on : List (OnLayer L)) (eye now mid next : E) (arrived : List (Arrival L)) (seen : Seen) (expected : ℕ)
-      (stage made : StageOf L) (waits : List (ℕ × Hold)) (later : QueuesOf L) (noted : FactsOf) (readings : List (OnLayer L)) (contents : List Picture) (view : ViewOf)
-      (sources : List ℕ) (releases : List (ReleaseOf L)) (all kept : List (KeptRead L)) : Type 0 where
+      (stage made : StageOf L) (waits : List (ℕ × Hold)) (later : QueuesOf L) (noted : FactsOf) (readings : List (OnLayer L)) (contents : List Picture)
+      (releases : List (ReleaseOf L)) (all kept : List (KeptRead L)) : Type 0 where
     pub alive : old.is_spent ≡ false
     pub frames : facts.frames ≡ old.frames
     pub queues : q ≡ record { pending = old.pending; last = old.last }
     pub on_is : on ≡ old.on
     pub decides : DecidesAll lease old.tree on facts q eye arrived seen expected stage waits later noted now
     pub stage_is : stage ≡ made
-    pub settles : SettlesAll lease (record { tree = made.tree; on = made.on; commits = []; gone = made.gone }) old.width old.height old.kept readings contents view sources releases all
+    pub settles : SettlesAll lease made.on made.gone old.kept readings contents releases all
     pub settled_eye : IsEyeAfter lease now mid []
     pub left : IsEyeAfter lease mid next (if is_some old.lent then [] else ends_of lease all)
     pub kept_is : kept ≡ (if is_some old.lent then all else [])
@@ -448,9 +447,9 @@ module _ {L E R C : Type 0} (lease : Ghosts L E R C) where
     pub rising : IsRisingFrom old.last arrived (last_of old.last arrived)
 
   module _ (old : HandlerOf L) (facts : FactsOf) (q : QueuesOf L) (on : List (OnLayer L)) (eye now mid next : E) (arrived : List (Arrival L)) (seen : Seen) (expected : ℕ)
-      (stage made : StageOf L) (waits : List (ℕ × Hold)) (later : QueuesOf L) (noted : FactsOf) (readings : List (OnLayer L)) (contents : List Picture) (view : ViewOf)
-      (sources : List ℕ) (releases : List (ReleaseOf L)) (all kept : List (KeptRead L))
-      (m : Makes old facts q on eye now mid next arrived seen expected stage made waits later noted readings contents view sources releases all kept) where
+      (stage made : StageOf L) (waits : List (ℕ × Hold)) (later : QueuesOf L) (noted : FactsOf) (readings : List (OnLayer L)) (contents : List Picture)
+      (releases : List (ReleaseOf L)) (all kept : List (KeptRead L))
+      (m : Makes old facts q on eye now mid next arrived seen expected stage made waits later noted readings contents releases all kept) where
     begins : Begins eye on q.pending arrived
     begins = begins_with old on q eye arrived m.handler m.fits m.brought m.on_is m.queues
 
@@ -507,7 +506,7 @@ module _ {L E R C : Type 0} (lease : Ghosts L E R C) where
           (reads_fit (lease.fits (lease.mark next)) made.gone (subst (λ mark. AllOn (lease.fits mark) made.gone) (sym mark_now) (fits_of now made.gone readable_gone))))));
     }
 
-    pub decides_vsync : Decides lease old eye arrived seen expected (record { commits = made.commits; view = view; sources = sources; releases = releases; held = waits }) handler_after next
+    pub decides_vsync : Decides lease old eye arrived seen expected (record { commits = made.commits; releases = releases; held = waits }) handler_after next
     decides_vsync =
         let d = m.decides in
         let s = m.settles in
@@ -529,8 +528,6 @@ module _ {L E R C : Type 0} (lease : Ghosts L E R C) where
             commits = ap (λ (x : StageOf L). x.commits) end_is;
             held = d.holds;
             releases = subst (λ (x : StageOf L). AllZip (IsReleaseOf lease) x.gone releases) end_is s.released;
-            view = subst (λ (x : StageOf L). Views x.tree.layers old.width old.height view) end_is s.view_is;
-            sources = s.sources_are ∙ ap (λ (x : StageOf L). map (source_of x.on) view.drawn) end_is;
             frames = d.frames;
             state = λ i. record {
               width = old.width;
@@ -578,11 +575,11 @@ module _ {L E R C : Type 0} (lease : Ghosts L E R C) where
     }
 
   -- the same said of the same handler and of what is told
-  pub decides_same : (old same : HandlerOf L) (eye next : E) (arrived : List (Arrival L)) (seen : Seen) (expected : ℕ) (told known : VsyncOf L) (new : HandlerOf L)
+  pub decides_same : (old same : HandlerOf L) (eye next : E) (arrived : List (Arrival L)) (seen : Seen) (expected : ℕ) (told known : CommittedOf L) (new : HandlerOf L)
       → old ≡ same → told ≡ known → Decides lease old eye arrived seen expected told new next → Decides lease same eye arrived seen expected known new next
   decides_same old same eye next arrived seen expected told known new at said decides =
       subst (λ (h : HandlerOf L). Decides lease h eye arrived seen expected known new next) at
-      (subst (λ (t : VsyncOf L). Decides lease old eye arrived seen expected t new next) said decides)
+      (subst (λ (t : CommittedOf L). Decides lease old eye arrived seen expected t new next) said decides)
 
   pub kept_as : (h : HandlerOf L) (contents : List Picture) (b c : Bool) → c ≡ b → IsKept lease h contents b → IsKept lease h contents c
   kept_as h contents b c same kept = subst (IsKept lease h contents) (sym same) kept
@@ -592,3 +589,19 @@ module _ {L E R C : Type 0} (lease : Ghosts L E R C) where
       → old ≡ same → Stops lease old eye arrived seen expected new eye' → OnErr answer (Stops lease same eye arrived seen expected new eye')
   stops_same (Ok x) old same new eye eye' arrived seen expected at stops = tt
   stops_same (Err e) old same new eye eye' arrived seen expected at stops = subst (λ (h : HandlerOf L). Stops lease h eye arrived seen expected new eye') at stops
+
+  -- a vsync that was made stops when its view finds no memory: it handed back all that went
+  pub stops_unseen : (old made new : HandlerOf L) (eye eye' : E) (arrived : List (Arrival L)) (seen : Seen) (expected : ℕ) (told : CommittedOf L)
+      → Decides lease old eye arrived seen expected told made eye' → FitsHandler lease eye old → AllLeases (lease.fits (lease.mark eye)) arrived
+      → new.is_spent ≡ true → new.lent ≡ made.lent → new.kept ≡ made.kept → Stops lease old eye arrived seen expected new eye'
+  stops_unseen old made new eye eye' arrived seen expected told d fits brought spent lent kept =
+      let s = d.settled in
+      record {
+        spent = spent;
+        lent = lent ∙ ap (λ (h : HandlerOf L). h.lent) s.state;
+        handed = d.end.stage.gone;
+        gone = inr (record { looked = d.looked; looks = d.looks; shown = d.shown; end = d.end; decided = d.decided; left = []; all = append-nil d.end.stage.gone });
+        kept = kept ∙ s.kept;
+        reads = s.reads;
+        fits = λ _. subst (AllKept (lease.fits (lease.mark eye))) (sym kept) (subst (λ m. AllKept (lease.fits m) made.kept) s.reads.mark (s.fits fits brought).kept);
+      }

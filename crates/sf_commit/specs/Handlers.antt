@@ -11,17 +11,17 @@ use Rattle.sf_view.specs.sf_tree.Trees.{TreeOf}
 use Rattle.sf_commit_next.specs.sf_ready.Facts.{TellsSame}
 use Rattle.sf_commit_next.specs.sf_token.Loads.{AllLeases, IsLookedArrival}
 use Rattle.sf_commit_next.specs.sf_token.Pending.{Arrival, IsRisingFrom}
-use Rattle.sf_view.specs.Views.{IsDisplay, Views}
+use Rattle.sf_view.specs.Views.{IsDisplay}
 use Rattle.sf_view.specs.declared.drawn.Drawn.{Drawn}
 use Rattle.sf_commit.specs.OnLayers.{OnLayer, is_on, shown_on}
 use Rattle.sf_commit.specs.Rounds.{Decided, Round, held}
 use Rattle.sf_commit.specs.Leases.{AllOn, IsReleaseOf, ShowsLease, pictures, pictures_here}
 use Rattle.sf_commit.specs.Lending.{AllKept, AreThere, KeptRead, ends_of, kept_if, left_if, read_of, reads_of}
-use Rattle.sf_commit.specs.Releases.{VsyncOf}
+use Rattle.sf_commit.specs.Releases.{CommittedOf}
 use Rattle.sf_commit.specs.Standing.{Stands}
 
 -- what decides in a vsync: the size of the display, the tree, what is pending, the frames that were committed, the
--- buffers on layers, the greatest arrival number, and whether memory was wanting; and beside it the pictures that are
+-- buffers on layers, the greatest arrival number, and whether memory ran out; and beside it the pictures that are
 -- lent, if buffers are, and the reads that are kept until these come back
 pub record HandlerOf (L : Type 0) : Type 0 where
   pub width : ℕ
@@ -101,15 +101,13 @@ module _ {L E R C : Type 0} (lease : Ghosts L E R C) where
     pub unchanged : IfSome handler.lent (λ lent. has_changed ≡ false → (lent ≡ pictures lease handler.on) × (handler.kept ≡ []))
     pub keeps : handler.is_spent ≡ false → IsHandler handler
 
-  -- how a vsync ends, once all is decided: the buffers that go are handed back, those that are newly shown are read,
-  -- and the display shows the layers as they are now. The reads of what goes are left, or kept while buffers are lent
-  pub record Settles (old : HandlerOf L) (eye : E) (arrived : List (Arrival L)) (end : Round L) (seen : Seen) (expected : ℕ) (told : VsyncOf L)
+  -- how a vsync ends, once all is decided: the buffers that go are handed back, and those that are newly shown are
+  -- read. The reads of what goes are left, or kept while buffers are lent
+  pub record Settles (old : HandlerOf L) (eye : E) (arrived : List (Arrival L)) (end : Round L) (seen : Seen) (expected : ℕ) (told : CommittedOf L)
       (new : HandlerOf L) (eye' : E) : Type 0 where
     pub commits : told.commits ≡ end.stage.commits
     pub held : told.held ≡ held lease.shown seen expected end
     pub releases : AllZip (IsReleaseOf lease) end.stage.gone told.releases
-    pub view : Views end.stage.tree.layers old.width old.height told.view
-    pub sources : told.sources ≡ map (source_of end.stage.on) told.view.drawn
     pub frames : TellsSame new.frames end.frames
     pub state : new ≡ record old {
       tree = end.stage.tree;
@@ -125,7 +123,7 @@ module _ {L E R C : Type 0} (lease : Ghosts L E R C) where
 
   -- a vsync looks once at each lease of what is pending, in the order of arrival, and then decides by what the looks
   -- showed
-  pub record Decides (old : HandlerOf L) (eye : E) (arrived : List (Arrival L)) (seen : Seen) (expected : ℕ) (told : VsyncOf L) (new : HandlerOf L) (eye' : E) : Type 0 where
+  pub record Decides (old : HandlerOf L) (eye : E) (arrived : List (Arrival L)) (seen : Seen) (expected : ℕ) (told : CommittedOf L) (new : HandlerOf L) (eye' : E) : Type 0 where
     pub alive : old.is_spent ≡ false
     pub looked : List (Arrival L)
     pub looks : AllZip (IsLookedArrival lease) (old.pending ++ arrived) looked
@@ -144,7 +142,7 @@ module _ {L E R C : Type 0} (lease : Ghosts L E R C) where
     pub left : List (OnLayer L)
     pub all : handed ++ left ≡ end.stage.gone
 
-  -- What a vsync leaves for want of memory: what was lent is lent still. It handed back nothing, or some of the buffers that
+  -- What a vsync leaves that runs out of memory: what was lent is lent still. It handed back nothing, or some of the buffers that
   -- go once all is decided, whose reads are left, or kept while buffers are lent.
   pub record Stops (old : HandlerOf L) (eye : E) (arrived : List (Arrival L)) (seen : Seen) (expected : ℕ) (new : HandlerOf L) (eye' : E) : Type 0 where
     pub spent : new.is_spent ≡ true

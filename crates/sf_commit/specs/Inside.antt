@@ -80,7 +80,7 @@ pub record Notes (old new : FactsOf) (shown : List (LayerId × Shown)) (layers :
 
 module _ {L : Type 0} where
   -- what operations and their buffers make of the stage and of what is decided from, by what the tree answered, and what
-  -- is told of it: the cause and the place of a rejection, or zeros
+  -- is reported of it: the cause and the place of a rejection, or zeros
   abbrev pub Follows : StageOf L → StageOf L → FactsOf → FactsOf → List (LayerId × Op) → List (Buffer L) → ℕ × ℕ → Result TreeOf Rejection → Type 0
   Follows old new facts later ops buffers told (Ok tree) =
       (new ≡ accepted (record old { tree = tree }) ops buffers) × (told ≡ (0, 0)) × Notes facts later (map shown_by buffers) tree.layers

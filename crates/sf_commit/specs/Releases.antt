@@ -13,10 +13,20 @@ pub record ReleaseOf (L : Type 0) : Type 0 where
   pub fence : Fence
   pub lease : L
 
--- what a vsync tells
+-- what a vsync reports
+pub record CommittedOf (L : Type 0) : Type 0 where
+  pub commits : List Commit
+  pub releases : List (ReleaseOf L)
+  pub held : List (ℕ × Hold)
+
+-- what a vsync reports that is asked for its view
 pub record VsyncOf (L : Type 0) : Type 0 where
   pub commits : List Commit
   pub view : ViewOf
   pub sources : List ℕ
   pub releases : List (ReleaseOf L)
   pub held : List (ℕ × Hold)
+
+-- the same without the view
+abbrev pub committed_in : {L : Type 0} → VsyncOf L → CommittedOf L
+committed_in told = record { commits = told.commits; releases = told.releases; held = told.held }

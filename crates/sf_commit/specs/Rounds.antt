@@ -48,7 +48,7 @@ abbrev pub layers_in : List (LayerId × Shown) → List ℕ
 layers_in shown = map (λ (one : LayerId × Shown). one.0.0) shown
 
 module _ {L : Type 0} where
-  -- what is told of a commit
+  -- what is reported of a commit
   abbrev pub commit_of : Arrival L → ℕ → ℕ → Commit
   commit_of arrived cause op =
       record { token = arrived.txn.token; number = arrived.number; cause = cause; op = op; buffers = map shown_by arrived.txn.buffers }

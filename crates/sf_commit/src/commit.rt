@@ -14,12 +14,11 @@ ghost use Rattle.sf_commit_next.specs.sf_txn.Transactions.{shown_by};
 use crate::note::note;
 use crate::on::OnLayer;
 use crate::stage::show_all;
-use crate::viewed::ViewedTree;
 use crate::vsync::Commit;
 use sf_base::{Items, LayerId, NoMemory};
 use sf_commit_next::{Arrived, BufferOp, Facts, Lease, Parts};
 use sf_view::sf_layer::Shown;
-use sf_view::sf_tree::ApplyFault;
+use sf_view::sf_tree::{ApplyFault, Tree};
 use std::alloc::Global;
 use std::marker::Model;
 
@@ -27,7 +26,7 @@ use std::marker::Model;
 #[derive(Drop)]
 pub(crate) struct Stage<L: Lease> {
     pub alloc: Global,
-    pub tree: ViewedTree,
+    pub tree: Tree,
     pub on: Vec<OnLayer<L>>,
     pub commits: Vec<Commit>,
     /// The buffers that go, in the order in which they left their layers.

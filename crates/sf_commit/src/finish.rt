@@ -1,59 +1,45 @@
-//! The second half of a vsync, behind its decisions: frames that go are handed back, the pixels of
-//! new ones are taken out, and the display's view is made.
+//! The second half of a vsync, behind its decisions: frames that go are handed back, and the pixels
+//! of new ones are taken out.
 ghost use Rattle.std.specs.List.{All};
-ghost use Rattle.std.specs.Prelude.{◌≡◌, [], IfOk};
+ghost use Rattle.std.specs.Prelude.{[], IfOk};
 ghost use Rattle.sf_commit.specs.inner.Following.{SettlesAll};
 ghost use Rattle.sf_commit.specs.Leases.{AllOn, IsKnownOn};
 ghost use Rattle.sf_commit.specs.Lending.{KeepsSome};
 ghost use Rattle.sf_commit_next.specs.sf_txn.Leases.{IsEyeAfter};
-ghost use Rattle.sf_view.specs.Views.{IsDisplay};
 
 use crate::keeping::KeptRead;
 use crate::on::OnLayer;
 use crate::opening::{Reading, open_all};
 use crate::settle::release_all;
-use crate::sources::sources;
-use crate::viewed::ViewedTree;
 use crate::vsync::Release;
 use sf_base::NoMemory;
 use sf_commit_next::Lease;
-use sf_view::View;
 use sf_view::sf_picture::Painted;
 use std::alloc::Global;
 
-/// What a vsync leaves on layers, and what the display shows.
+/// What a vsync leaves on layers, and what goes.
 #[derive(Drop)]
 pub(crate) struct Settled<L: Lease> {
     pub on: Vec<Reading<L>>,
     pub contents: Vec<Painted>,
-    pub view: View,
-    pub sources: Vec<u32>,
     pub releases: Vec<Release<L>>,
 }
 
-/// Hands back the buffers that go, whose reads are kept, reads those that are newly shown, and views
-/// the layers, whose view may be kept for the next vsync. Want of memory leaves the reads of those
-/// that were handed back.
+/// Hands back the buffers that go, whose reads are kept, and reads those that are newly shown. Out
+/// of memory leaves the reads of those that were handed back.
 pub(crate) fn settle_all<L: Lease + Drop>(
     alloc: Global,
-    tree: &mut ViewedTree,
-    is_kept: bool,
     on: Vec<OnLayer<L>>,
     gone: Vec<OnLayer<L>>,
-    width: u32,
-    height: u32,
     kept: &mut Vec<KeptRead<L>>,
     eye: &mut L::Eye,
 ) -> Result<Settled<L>, NoMemory>
 where
     L::Reading: Drop,
-    requires display { IsDisplay width height }
     requires staying { AllOn (L.fits (L.mark eye.old)) on.items }
     requires known { All (IsKnownOn L.Lease eye.old) on.items }
-    ensures settles { IfOk result (λ s. SettlesAll L.Lease
-        (record { tree = tree.old; on = on.items; commits = []; gone = gone.items }) width height kept.old.items
-        s.on.items s.contents.items s.view s.sources.items s.releases.items kept.new.items) }
-    ensures same { tree.new ≡ tree.old }
+    ensures settles { IfOk result (λ s. SettlesAll L.Lease on.items gone.items kept.old.items
+        s.on.items s.contents.items s.releases.items kept.new.items) }
     ensures some { KeepsSome kept.old.items kept.new.items gone.items }
     ensures eye { IsEyeAfter L.Lease eye.old eye.new [] }
 {
@@ -65,13 +51,9 @@ where
     if readings.len() > u32::MAX as usize {
         return Err(NoMemory);
     }
-    let view = tree.view_on(alloc, width, height, is_kept)?;
-    let sources = sources(alloc, view.drawn.as_slice(), readings.as_slice())?;
     Ok(Settled {
         on: readings,
         contents,
-        view,
-        sources,
         releases,
     })
 }

@@ -3,6 +3,8 @@
 ghost use Rattle.std.specs.Prelude.{[], IfOk};
 ghost use Rattle.sf_commit.specs.inner.Following.{DecidesAll};
 ghost use Rattle.sf_commit.specs.Handlers.{last_of};
+ghost use Rattle.sf_commit.specs.Rounds.{pressed_in};
+ghost use Rattle.sf_commit_next.specs.sf_ready.Facts.{HasSame};
 ghost use Rattle.sf_commit_next.specs.sf_token.Loads.{AllLeases};
 ghost use Rattle.sf_commit_next.specs.sf_token.Pending.{IsRisingFrom};
 ghost use Rattle.sf_commit_next.specs.sf_txn.Leases.{IsEyeAfter};
@@ -10,20 +12,19 @@ ghost use Rattle.sf_commit_next.specs.sf_txn.Leases.{IsEyeAfter};
 use crate::commit::Stage;
 use crate::decide::decide;
 use crate::held::held;
-use crate::note::note_pressed;
 use crate::on::OnLayer;
 use crate::receive::receive;
-use crate::viewed::ViewedTree;
 use sf_base::{NoMemory, Seen};
 use sf_commit_next::{Arrived, Facts, Hold, Lease, TokenQueues};
+use sf_view::sf_tree::Tree;
 use std::alloc::Global;
 
 /// Takes what arrived, looks once at each pending lease, and commits until nothing is left to
-/// commit. Tells what the stage is then, and what waits.
+/// commit. Returns what the stage is then, and what waits.
 #[tactic(auto, using(crate::proofs::SettleLemmas::eye_same))]
 pub(crate) fn decide_all<L: Lease + Drop>(
     alloc: Global,
-    tree: ViewedTree,
+    tree: Tree,
     on: Vec<OnLayer<L>>,
     queues: &mut TokenQueues<L>,
     facts: &mut Facts,
@@ -37,6 +38,7 @@ where
     requires pending { AllLeases (L.fits (L.mark eye.old)) queues.old.pending }
     requires brought { AllLeases (L.fits (L.mark eye.old)) arrived.items }
     requires earlier { IsRisingFrom 0 queues.old.pending queues.old.last }
+    requires pressed { HasSame facts.old.pressed (pressed_in tree.layers) }
     requires rising { IsRisingFrom queues.old.last arrived.items (last_of queues.old.last arrived.items) }
     ensures decides { IfOk result (λ d. DecidesAll L.Lease tree on.items facts.old queues.old eye.old arrived.items seen.now expected
         d.0 d.1.items queues.new facts.new eye.new) }
@@ -45,7 +47,6 @@ where
     receive(queues, arrived)?;
     let looks = queues.look(eye)?;
     facts.begin_vsync();
-    note_pressed(facts, tree.layers())?;
     let mut stage = Stage {
         alloc,
         tree,

@@ -1,12 +1,14 @@
-//! The compositor between two vsyncs, as its callers hold it: `vsync` does one, and `lend` and
-//! `give_back` let others read the pixels while the next one is decided.
+//! The compositor between two vsyncs, as its callers hold it: `commit` does one, `vsync` returns
+//! its view as well, and `lend` and `give_back` let others read the pixels while the next is
+//! decided.
 ghost use Rattle.std.specs.Prelude.{◌≡◌, ◌≤◌, true, false, [], IfOk, IsErr, None, OnErr, Some, is_some, map};
 ghost use Rattle.sf_commit_next.specs.sf_token.Pending.{IsRisingFrom};
-ghost use Rattle.sf_view.specs.Views.{IsDisplay};
-ghost use Rattle.sf_commit.specs.Handlers.{Decides, FitsHandler, IsHandler, Stops, last_of, new_handler};
+ghost use Rattle.sf_view.specs.Views.{IsDisplay, Views};
+ghost use Rattle.sf_commit.specs.Handlers.{Decides, FitsHandler, IsHandler, Stops, last_of, new_handler, source_of};
 ghost use Rattle.sf_commit.specs.Leases.{pictures};
 ghost use Rattle.sf_commit.specs.Lending.{AllKept, ends_of};
 ghost use Rattle.sf_commit.specs.OnLayers.{IsPlaceOf, at_hand, lent_from};
+ghost use Rattle.sf_commit.specs.Releases.{committed_in};
 ghost use Rattle.sf_commit_next.specs.sf_token.Loads.{AllLeases};
 ghost use Rattle.sf_commit_next.specs.sf_txn.Leases.{IsEyeAfter};
 
@@ -16,14 +18,14 @@ use crate::follow::decide_all;
 use crate::keeping::KeptRead;
 use crate::lending::{Contents, Room, leave_unlent, mark_at_hand, mark_lent, put_back};
 use crate::opening::{Reading, gather};
-use crate::sources::index_of_shown;
-use crate::viewed::ViewedTree;
-use crate::vsync::Vsync;
+use crate::sources::{index_of_shown, sources};
+use crate::vsync::{Committed, Vsync};
 use sf_base::{Items, NoMemory, Seen};
 use sf_commit_next::{Arrived, Facts, Lease, TokenQueues};
 use sf_view::sf_layer::Shown;
 use sf_view::sf_picture::Painted;
 use sf_view::sf_tree::Tree;
+use sf_view::{Drawn, View, view_of};
 use std::alloc::Global;
 use std::marker::Model;
 use std::mem;
@@ -38,7 +40,7 @@ pub struct Handler<L: Lease> {
     alloc: Global,
     width: u32,
     height: u32,
-    tree: ViewedTree,
+    tree: Tree,
     queues: TokenQueues<L>,
     facts: Facts,
     on: Vec<Reading<L>>,
@@ -54,10 +56,12 @@ pub struct Handler<L: Lease> {
 
 impl<L: Lease> Model for Handler<L> {
     ghost use Rattle.std.specs.Option.{option_map};
-    ghost use Rattle.std.specs.Prelude.{length};
+    ghost use Rattle.std.specs.Prelude.{◌≡◌, false, length};
     ghost use Rattle.std.specs.Vec.{vec_capacity, vec_len};
     ghost use Rattle.sf_commit.specs.Handlers.{HandlerOf, IsKept, lent_pixels};
     ghost use Rattle.sf_commit.specs.Inside.{HasRoom};
+    ghost use Rattle.sf_commit.specs.Rounds.{pressed_in};
+    ghost use Rattle.sf_commit_next.specs.sf_ready.Facts.{HasSame};
 
     ghost Value = { HandlerOf L };
 
@@ -87,7 +91,8 @@ impl<L: Lease> Model for Handler<L> {
       kept = h.kept.items;
     }) h.contents.items h.has_changed
         × HasRoom (length (lent_pixels (option_map (λ lent. lent.value) h.lent))) (length h.on.items) h.has_changed
-        (vec_len h.room.slots, vec_capacity h.room.slots) (vec_len h.room.contents, vec_capacity h.room.contents) };
+        (vec_len h.room.slots, vec_capacity h.room.slots) (vec_len h.room.contents, vec_capacity h.room.contents)
+        × (h.is_spent ≡ false → HasSame h.facts.pressed (pressed_in h.tree.layers)) };
 }
 
 impl<L: Lease + Drop> Handler<L>
@@ -118,7 +123,7 @@ where
             alloc,
             width,
             height,
-            tree: ViewedTree::with_limit(alloc, most)?,
+            tree: Tree::with_limit(alloc, most)?,
             queues: TokenQueues::new(alloc)?,
             facts: Facts::new(alloc),
             on: Vec::new(alloc),
@@ -139,15 +144,15 @@ where
     /// While the pixels are lent, the leases of what goes are handed on and their reads kept until the
     /// pixels are given back; else these reads have ended when it returns.
     ///
-    /// After want of memory the handler is spent: everything pending is given up, and every later
-    /// vsync answers so. What was lent can be given back then, too.
-    pub fn vsync(
+    /// Once it has run out of memory the handler is spent: everything pending is given up, and
+    /// every later vsync answers so. What was lent can be given back then, too.
+    pub fn commit(
         &mut self,
         eye: &mut L::Eye,
         arrived: Vec<Arrived<L>>,
         seen: &Seen,
         expected: u64,
-    ) -> Result<Vsync<L>, NoMemory>
+    ) -> Result<Committed<L>, NoMemory>
         requires fits { self.old.is_spent ≡ false → FitsHandler L.Lease eye.old self.old }
         requires brought { AllLeases (L.fits (L.mark eye.old)) arrived.items }
         requires rising { self.old.is_spent ≡ false → IsRisingFrom self.old.last arrived.items (last_of self.old.last arrived.items) }
@@ -162,7 +167,7 @@ where
         }
         self.is_spent = true;
         let alloc = self.alloc;
-        let tree = mem::replace(&mut self.tree, ViewedTree::with_limit(alloc, MOST_LAYERS)?);
+        let tree = mem::replace(&mut self.tree, Tree::with_limit(alloc, MOST_LAYERS)?);
         let is_lent = self.lent.is_some();
         self.has_changed = is_lent;
         let readings = mem::replace(&mut self.on, Vec::new(alloc));
@@ -180,29 +185,17 @@ where
             expected,
         )?;
         let Stage {
-            mut tree,
+            tree,
             on,
             commits,
             gone,
             ..
         } = stage;
-        let settled = settle_all(
-            alloc,
-            &mut tree,
-            commits.is_empty(),
-            on,
-            gone,
-            self.width,
-            self.height,
-            &mut self.kept,
-            eye,
-        );
+        let settled = settle_all(alloc, on, gone, &mut self.kept, eye);
         leave_unlent(alloc, eye, &mut self.kept, is_lent);
         let Settled {
             on,
             contents,
-            view,
-            sources,
             releases,
         } = settled?;
         self.room.make(on.len(), is_lent)?;
@@ -210,12 +203,59 @@ where
         self.on = on;
         self.contents = contents;
         self.is_spent = false;
-        Ok(Vsync {
+        Ok(Committed {
             commits: Items::new(commits),
-            view,
-            sources: Items::new(sources),
             releases: Items::new(releases),
             held: Items::new(held),
+        })
+    }
+
+    /// The view that the display shows, with the places of its buffers in the contents.
+    fn show(&self) -> Result<(View, Items<u32>), NoMemory>
+        requires { self.now.is_spent ≡ false }
+        ensures view { IfOk result (λ shown. Views self.now.tree.layers self.now.width self.now.height shown.0) }
+        ensures sources { IfOk result (λ shown. shown.1 ≡ map (source_of self.now.on) shown.0.drawn) }
+    {
+        let view = view_of(self.alloc, &self.tree, self.width, self.height)?;
+        let sources = self.sources(view.drawn.as_slice())?;
+        Ok((view, sources))
+    }
+
+    /// A vsync as `commit` does it, and the view that the display shows then. Where no frame is shown,
+    /// or one of other layers than these, `commit` is enough.
+    pub fn vsync(
+        &mut self,
+        eye: &mut L::Eye,
+        arrived: Vec<Arrived<L>>,
+        seen: &Seen,
+        expected: u64,
+    ) -> Result<Vsync<L>, NoMemory>
+        requires fits { self.old.is_spent ≡ false → FitsHandler L.Lease eye.old self.old }
+        requires brought { AllLeases (L.fits (L.mark eye.old)) arrived.items }
+        requires rising { self.old.is_spent ≡ false → IsRisingFrom self.old.last arrived.items (last_of self.old.last arrived.items) }
+        ensures decides { IfOk result (λ told. Decides L.Lease self.old eye.old arrived.items seen.now expected (committed_in told) self.new eye.new) }
+        ensures view { IfOk result (λ told. Views self.new.tree.layers self.new.width self.new.height told.view) }
+        ensures sources { IfOk result (λ told. told.sources ≡ map (source_of self.new.on) told.view.drawn) }
+        ensures stops { OnErr result (Stops L.Lease self.old eye.old arrived.items seen.now expected self.new eye.new) }
+        ensures again { self.old.is_spent ≡ true → IsErr result }
+        ensures mark { L.mark eye.new ≡ L.mark eye.old }
+        ensures keeps { (l : L) → L.knows eye.old l → L.knows eye.new l }
+    {
+        let Committed {
+            commits,
+            releases,
+            held,
+        } = self.commit(eye, arrived, seen, expected)?;
+        let Ok((view, sources)) = self.show() else {
+            self.is_spent = true;
+            return Err(NoMemory);
+        };
+        Ok(Vsync {
+            commits,
+            view,
+            sources,
+            releases,
+            held,
         })
     }
 
@@ -302,7 +342,15 @@ where
         ensures tree { result.now ≡ self.now.tree }
         ensures kept { self.now.is_spent ≡ false → IsHandler L.Lease self.now }
     {
-        self.tree.tree()
+        &self.tree
+    }
+
+    /// For each drawn layer the place of its buffer in the contents, as they stand when nothing is
+    /// lent, and 0 where the layer has none. It may be asked while pixels are lent.
+    pub fn sources(&self, drawn: &[Drawn]) -> Result<Items<u32>, NoMemory>
+        ensures sources { IfOk result (λ sources. sources ≡ map (source_of self.now.on) drawn.now) }
+    {
+        Ok(Items::new(sources(self.alloc, drawn, &self.on)?))
     }
 
     /// The place of just this buffer, with its picture and its crop, in the contents, as they stand

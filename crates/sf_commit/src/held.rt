@@ -13,10 +13,7 @@ use std::alloc::Global;
 fn is_first<L: Lease + Drop>(queues: &TokenQueues<L>, arrived: &Arrived<L>) -> bool
     ensures { result ≡ is_first queues.now.pending arrived.now }
 {
-    match queues.head(arrived.txn.token()) {
-        Some(first) => first.number == arrived.number,
-        None => false,
-    }
+    queues.is_first(arrived.txn.token(), arrived.number)
 }
 
 /// Why a pending transaction waits; None where nothing holds it.
@@ -38,7 +35,7 @@ fn hold_at<L: Lease + Drop>(
     }
 }
 
-/// Why the transaction that was looked at waits, with its number; None where it waits no longer.
+/// Why the transaction that was looked at waits, with its number; None where it does not wait.
 fn told_at<L: Lease + Drop>(
     queues: &TokenQueues<L>,
     look: &Looks,

@@ -31,7 +31,7 @@ impl<L: Lease> Model for KeptRead<L> {
     ghost invariant = { λ k. IsKeptRead L.Lease (L.opened k.opened.value) k.closing k.image };
 }
 
-/// Hands on the lease of a reading, and keeps the read. Want of memory ends the reading.
+/// Hands on the lease of a reading, and keeps the read. Out of memory ends the reading.
 pub(crate) fn keep<L: Lease + Drop>(
     alloc: Global,
     kept: &mut Vec<KeptRead<L>>,

@@ -1,5 +1,5 @@
-//! The pixels of the buffers on layers, at hand or lent to whoever renders from them, and the reads
-//! that end when they come back.
+//! The pixels of the buffers on layers, at hand or lent to their renderer, and the reads that end
+//! when they come back.
 ghost use Rattle.std.specs.Prelude.{◌≡◌, ◌+◌, ◌≤◌, ◌++◌, ◌∷◌, [], IsSome, OnOk, if◌then◌else◌};
 ghost use Rattle.std.specs.Prelude.{List, Some, None, false, true, get_or, length, map, slice_set};
 ghost use Rattle.std.specs.Vec.{vec_capacity, vec_len};

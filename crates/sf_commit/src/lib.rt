@@ -1,6 +1,6 @@
 //! The compositor between two vsyncs: it takes the transactions that arrived, and at each vsync
-//! commits those that are ready, takes their buffers, tells what the display shows, and releases
-//! the buffers that no layer shows any more. A buffer on a layer stays entered for reading, and its
+//! commits those that are ready, takes their buffers, and releases the buffers that no layer shows
+//! any more. A buffer on a layer stays entered for reading, and its
 //! pixels can be lent while the next vsync is decided.
 #![tactic(auto)]
 
@@ -19,7 +19,6 @@ mod receive;
 mod settle;
 mod sources;
 mod stage;
-mod viewed;
 mod vsync;
 
 pub use handler::Handler;
@@ -29,4 +28,4 @@ pub use sf_commit_next::{
     Outcome,
 };
 pub use sf_view::sf_picture::{Painted, Picture};
-pub use vsync::{Commit, Release, Vsync};
+pub use vsync::{Commit, Committed, Release, Vsync};

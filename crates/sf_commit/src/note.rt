@@ -11,7 +11,7 @@ ghost use Rattle.sf_view.specs.sf_tree.Trees.{TreeOf};
 
 use sf_base::{LayerId, NoMemory};
 use sf_commit_next::Facts;
-use sf_view::sf_layer::{Layer, Op, Shown};
+use sf_view::sf_layer::{Op, Shown};
 
 /// Buffers were committed for their layers.
 fn note_shown(facts: &mut Facts, shown: &[(LayerId, Shown)]) -> Result<(), NoMemory>
@@ -22,20 +22,6 @@ fn note_shown(facts: &mut Facts, shown: &[(LayerId, Shown)]) -> Result<(), NoMem
     for (layer, one) in shown {
         facts.add_frame(*layer, one.frame)?;
         facts.add_fresh(*layer)?;
-    }
-    Ok(())
-}
-
-/// These are the layers with backpressure.
-pub(crate) fn note_pressed(facts: &mut Facts, layers: &[Layer]) -> Result<(), NoMemory>
-    ensures rest { OnOk result (facts.new ≡ record facts.old { pressed = facts.new.pressed }) }
-    ensures pressed { OnOk result (HasSame facts.new.pressed (pressed_in layers.now)) }
-{
-    facts.clear_pressed();
-    for layer in layers {
-        if layer.backpressure {
-            facts.add_pressed(layer.number)?;
-        }
     }
     Ok(())
 }

@@ -73,7 +73,7 @@ fn apart(image: Image) -> (Option<usize>, Option<Painted>)
     }
 }
 
-/// Takes the pixels of a buffer out, where they are not out yet, and tells them where they are at
+/// Takes the pixels of a buffer out, where they are not out yet, and returns them where they are at
 /// hand.
 fn open_one<L: Lease + Drop>(eye: &mut L::Eye, one: OnLayer<L>) -> (Reading<L>, Option<Painted>)
     requires fits { L.fits (L.mark eye.old) one.lease }

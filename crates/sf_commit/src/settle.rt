@@ -1,4 +1,4 @@
-//! Frames that no layer shows any more are handed back to whoever called the vsync, and their reads
+//! Frames that no layer shows any more are handed back to the caller of the vsync, and their reads
 //! are kept.
 ghost use Rattle.std.specs.List.{AllZip};
 ghost use Rattle.std.specs.Prelude.{◌≡◌, ◌+◌, ◌≤◌, ◌<◌, ◌++◌, ◌∷◌, [], IfOk, OnErr, OnOk};
@@ -43,7 +43,7 @@ where
 }
 
 /// All buffers that go are handed back, in their order, and their reads are kept behind the earlier
-/// ones. Want of memory leaves the reads of those that were handed back.
+/// ones. Out of memory leaves the reads of those that were handed back.
 #[tactic(auto, using(crate::proofs::SettleLemmas::released_none, crate::proofs::SettleLemmas::released_all))]
 pub(crate) fn release_all<L: Lease + Drop>(
     alloc: Global,

@@ -1,5 +1,5 @@
-//! What a vsync answers: its commits, the frames to release, what is held, and the view with the
-//! places of its pixels.
+//! What a vsync answers: its commits, the frames to release and what is held; and, where it is asked
+//! for, the view with the places of its pixels.
 use sf_base::{Fence, Items, LayerId, QueueId, TokenId};
 use sf_commit_next::{Hold, Lease};
 use sf_view::View;
@@ -38,6 +38,25 @@ impl<L: Lease> Model for Release<L> {
 }
 
 /// What a vsync did.
+#[derive(Drop)]
+pub struct Committed<L: Lease> {
+    /// In the order in which they were made.
+    pub commits: Items<Commit>,
+    /// In the order of the commits, and within one in that of its operations.
+    pub releases: Items<Release<L>>,
+    /// What is pending, by its number in the order of arrival, and why.
+    pub held: Items<(u32, Hold)>,
+}
+
+impl<L: Lease> Model for Committed<L> {
+    ghost use Rattle.sf_commit.specs.Releases.{CommittedOf};
+
+    ghost Value = { CommittedOf L };
+
+    ghost view = { λ c. record { commits = c.commits; releases = c.releases; held = c.held } };
+}
+
+/// What a vsync did, with what the display shows then.
 #[derive(Drop)]
 pub struct Vsync<L: Lease> {
     /// In the order in which they were made.

@@ -24,7 +24,7 @@ module _ {B : Type 0} (lease : Ghosts ReadLeaseOf SeatView ReadLeaseOf Issued) (
     (before now : Option (List ℕ)) (screens : List OutputScreen) (sitting : Sitting B) where
   -- what is due can be composed
   pub stage_due : (due : Option VsyncReport) → SitsWith lease table locks period due plan most timelines before now screens sitting
-      → IfSome due (λ (last : VsyncReport). IsStage expected_by plan sitting.handler last.view last.sources)
+      → IfSome due (λ (last : VsyncReport). IsStage expected_by plan sitting.handler)
   stage_due None sits = tt
   stage_due (Some report) sits = sits.stage
 
@@ -56,7 +56,7 @@ module _ {B : Type 0} (lease : Ghosts ReadLeaseOf SeatView ReadLeaseOf Issued) (
 
     -- and the next vsync is due
     pub sits_behind : (due : Option VsyncReport) (new : Sitting B) (report : VsyncReport) → SitsWith lease table locks period due plan most timelines before now screens sitting
-        → WritesDue plan timelines now later screens shown sitting.handler due → MakesVsync lease table locks period sitting new report → IsStage expected_by plan new.handler report.view report.sources
+        → WritesDue plan timelines now later screens shown sitting.handler due → MakesVsync lease table locks period sitting new report → IsStage expected_by plan new.handler
         → SitsBehind lease table locks period plan most timelines before later shown new report
     sits_behind due new report sits written made stage = record { last = sitting; sits = sits_then due sits written; made = made; stage = stage }
 

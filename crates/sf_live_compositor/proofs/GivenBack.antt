@@ -6,7 +6,7 @@ use Rattle.sf_base.specs.declared.fences.Seen.{Seen}
 use Rattle.sf_live_threads.specs.sf_commit.Handlers.{Decides, HandlerOf}
 use Rattle.sf_live_threads.specs.sf_commit.Lending.{ends_of}
 use Rattle.sf_live_threads.specs.sf_commit.OnLayers.{at_hand}
-use Rattle.sf_live_threads.specs.sf_commit.Releases.{ReleaseOf, VsyncOf}
+use Rattle.sf_live_threads.specs.sf_commit.Releases.{ReleaseOf, CommittedOf}
 use Rattle.sf_play_write.specs.sf_play_report.declared.report.VsyncReport.{VsyncReport}
 use Rattle.sf_live_threads.specs.sf_surface.Reading.{EyeMark}
 use Rattle.sf_live_threads.specs.sf_surface.Tokens.{Issued, ReadLeaseOf}
@@ -74,7 +74,7 @@ module _ {B : Type 0} (lease : Ghosts ReadLeaseOf SeatView ReadLeaseOf Issued) (
     pub sees : Sees (home_of locks old.seats) (view_of old.seats) (view_of looked) seen
     pub expected : ℕ
     pub due : expected ≡ new.number * period
-    pub told : VsyncOf ReadLeaseOf
+    pub told : CommittedOf ReadLeaseOf
     pub turns : SeatView
     pub decides : Decides lease old.handler took.turns arrived seen expected told new.handler turns
     pub gives : GiveAll (home_of locks took) new.number told.releases (view_of (record took { turns = turns })) (view_of new.seats)
@@ -84,7 +84,7 @@ module _ {B : Type 0} (lease : Ghosts ReadLeaseOf SeatView ReadLeaseOf Issued) (
     pub counted : new.number ≡ old.number + 1
     pub stays : Stays old.seats new.seats
     pub same_turns : new.seats.turns ≡ turns
-    pub is : record { number = new.number; expected = expected; seen = seen; commits = told.commits; view = told.view; sources = told.sources } ≡ report
+    pub is : record { number = new.number; expected = expected; seen = seen; commits = told.commits } ≡ report
 
   -- once the pixels are back, it is a vsync of a compositor that lent nothing
   pub makes_lent : (was : HandlerOf ReadLeaseOf) (old new : Sitting B) (report : VsyncReport) → HasLent was old.handler → Making old new report

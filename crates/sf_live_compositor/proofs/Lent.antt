@@ -1,9 +1,9 @@
 -- A vsync that is decided while the pixels of what is shown are lent is, once they are given back, the vsync that it is where nothing is lent.
-use Rattle.std.proofs.Common.{◌≡◌, ℕ, ◌+◌, Bool, cond, nat_lt, not, true, false, if◌then◌else◌, List, [], ◌∷◌, ◌++◌, map, Option, Some, None, Result, Ok, Err, refl, ap, sym, ◌∙◌, subst}
+use Rattle.std.proofs.Common.{◌≡◌, ℕ, ◌+◌, Bool, true, false, if◌then◌else◌, List, [], ◌∷◌, ◌++◌, map, Option, Some, None, Result, Ok, Err, refl, ap, sym, ◌∙◌, subst}
 use Rattle.std.specs.Prelude.{filter}
-use Rattle.std.specs.List.{All, AllZip, find, position, position_or_len}
-use Rattle.std.specs.Option.{option_map, option_to_list, unwrap_or}
-use Rattle.std.proofs.lemmas.List.{append-nil, length-map, map-append}
+use Rattle.std.specs.List.{All, AllZip, find}
+use Rattle.std.specs.Option.{option_map, option_to_list}
+use Rattle.std.proofs.lemmas.List.{append-nil, map-append}
 use Rattle.std.proofs.lemmas.List.Elements.{All-cons, All-head, All-map, All-nil, All-tail, All-weaker}
 use Rattle.sf_base.specs.declared.fences.Seen.{Seen}
 use Rattle.sf_base.specs.declared.ids.LayerId.{LayerId}
@@ -17,12 +17,11 @@ use Rattle.sf_live_threads.specs.sf_tree.Trees.{TreeOf}
 use Rattle.sf_live_threads.specs.sf_txn.Buffers.{Buffer}
 use Rattle.sf_live_threads.specs.sf_txn.Leases.{IsEyeAfter, IsShownTo}
 use Rattle.sf_live_threads.specs.sf_txn.declared.lease.Lease.{Ghosts}
-use Rattle.sf_live_threads.specs.sf_view.declared.drawn.Drawn.{Drawn}
-use Rattle.sf_live_threads.specs.sf_commit.Handlers.{Decides, HandlerOf, begun, last_of, source_of}
+use Rattle.sf_live_threads.specs.sf_commit.Handlers.{Decides, HandlerOf, begun, last_of}
 use Rattle.sf_live_threads.specs.sf_commit.Leases.{AllOn, IsReleaseOf}
 use Rattle.sf_live_threads.specs.sf_commit.Lending.{KeptRead, ends_of, kept_if, left_if, read_of, reads_of}
 use Rattle.sf_live_threads.specs.sf_commit.OnLayers.{OnLayer, at_hand, brought, gone_with, is_on, lent_from, on_after, shown_on, without}
-use Rattle.sf_live_threads.specs.sf_commit.Releases.{ReleaseOf, VsyncOf}
+use Rattle.sf_live_threads.specs.sf_commit.Releases.{ReleaseOf, CommittedOf}
 use Rattle.sf_live_threads.specs.sf_commit.Rounds.{Decided, Leads, Round, StageOf, committed, stage_with}
 
 module _ {L : Type 0} where
@@ -164,17 +163,6 @@ module _ {L : Type 0} where
     pub decided_at_hand : (r end : Round L) → Decided drawn seen expected r end → Decided drawn seen expected (round_at_hand r) (round_at_hand end)
     decided_at_hand r end decided = record { taken = decided.taken; leads = leads_at_hand r end decided.taken decided.leads; rests = decided.rests }
 
-  place_at_hand : (layer : LayerId) (on : List (OnLayer L)) → position_or_len (is_on layer) (map at_hand on) ≡ position_or_len (is_on layer) on
-  place_at_hand layer [] = refl
-  place_at_hand layer (one ∷ on) = ap (λ (n : ℕ). cond (not (is_on layer one)) (1 + n) 0) (place_at_hand layer on)
-
-  position_at_hand : (layer : LayerId) (on : List (OnLayer L)) → position (is_on layer) (map at_hand on) ≡ position (is_on layer) on
-  position_at_hand layer on = λ i. cond (nat_lt (place_at_hand layer on i) (length-map on at_hand i)) (Some (place_at_hand layer on i)) None
-
-  pub source_at_hand : (on : List (OnLayer L)) (drawn : List Drawn) → map (source_of (map at_hand on)) drawn ≡ map (source_of on) drawn
-  source_at_hand on [] = refl
-  source_at_hand on (d ∷ drawn) = λ i. unwrap_or (position_at_hand d.layer on i) 0 ∷ source_at_hand on drawn i
-
   lent_all : (P : L → Type 0) (place : ℕ) (on : List (OnLayer L)) → AllOn P on → AllOn P (lent_from place on)
   lent_all P place [] all = all
   lent_all P place (one ∷ on) all =
@@ -201,7 +189,7 @@ module _ {L E R C : Type 0} (lease : Ghosts L E R C) where
   ends_at_hand (one ∷ gone) =
       ends_if one.is_read one (filter (λ (x : OnLayer L). x.is_read) (map at_hand gone)) (filter (λ (x : OnLayer L). x.is_read) gone) (ends_at_hand gone)
 
-  module _ (old : HandlerOf L) (pixels : List Picture) (eye mid later : E) (arrived : List (Arrival L)) (seen : Seen) (expected : ℕ) (told : VsyncOf L) (new : HandlerOf L)
+  module _ (old : HandlerOf L) (pixels : List Picture) (eye mid later : E) (arrived : List (Arrival L)) (seen : Seen) (expected : ℕ) (told : CommittedOf L) (new : HandlerOf L)
       (unlent : old.lent ≡ None) (none_kept : old.kept ≡ []) (here : map at_hand old.on ≡ old.on) where
     -- what is shown was lent, a vsync was decided, and all was given back: the vsync is one of a handler that lent nothing
     pub decides_behind : Decides lease (record old { on = lent_from 0 old.on; lent = Some pixels }) eye arrived seen expected told new mid
@@ -230,8 +218,6 @@ module _ {L E R C : Type 0} (lease : Ghosts L E R C) where
             commits = s.commits;
             held = s.held;
             releases = released_at_hand end.stage.gone told.releases s.releases;
-            view = s.view;
-            sources = s.sources ∙ sym (source_at_hand end.stage.on told.view.drawn);
             frames = s.frames;
             state =
                 ap (λ (h : HandlerOf L). record h { on = map at_hand h.on; lent = None; kept = [] }) s.state

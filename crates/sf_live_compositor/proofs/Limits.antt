@@ -9,7 +9,7 @@ use Rattle.sf_live_threads.specs.sf_surface.Tokens.{ReadLeaseOf}
 use Rattle.sf_live_threads.specs.sf_turns.Views.{SeatView}
 use Rattle.sf_live_threads.specs.sf_txn.declared.lease.Lease.{Ghosts}
 use Rattle.sf_live_threads.specs.sf_commit.Handlers.{Decides, HandlerOf, begun}
-use Rattle.sf_live_threads.specs.sf_commit.Releases.{VsyncOf}
+use Rattle.sf_live_threads.specs.sf_commit.Releases.{CommittedOf}
 use Rattle.sf_live_threads.specs.sf_commit.Rounds.{Leads, Round, StageOf, committed, stage_after, stage_with}
 
 module _ {L : Type 0} where
@@ -26,7 +26,7 @@ module _ {L : Type 0} where
   round_limit drawn seen expected r (next ∷ later) end leads = round_limit drawn seen expected (committed r next) later end leads.1 ∙ stage_limit r.stage next
 
 pub limit_stays : {R C : Type 0} (lease : Ghosts ReadLeaseOf SeatView R C) (old new : HandlerOf ReadLeaseOf) (eye after : SeatView) (arrived : List (Arrival ReadLeaseOf)) (seen : Seen) (expected : ℕ)
-    (told : VsyncOf ReadLeaseOf) → Decides lease old eye arrived seen expected told new after → new.tree.most ≡ old.tree.most
+    (told : CommittedOf ReadLeaseOf) → Decides lease old eye arrived seen expected told new after → new.tree.most ≡ old.tree.most
 limit_stays lease old new eye after arrived seen expected told d =
     ap (λ (h : HandlerOf ReadLeaseOf). h.tree.most) d.settled.state
     ∙ round_limit lease.shown seen expected (begun old d.looked) d.decided.taken d.end d.decided.leads

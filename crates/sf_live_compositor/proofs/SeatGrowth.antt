@@ -5,7 +5,7 @@ use Rattle.std.specs.Prelude.{map}
 use Rattle.std.specs.List.{AllZip}
 use Rattle.atomic_table.specs.Seated.{TableId}
 use Rattle.sf_base.specs.declared.fences.Seen.{Seen}
-use Rattle.sf_live_threads.specs.sf_commit.Releases.{ReleaseOf, VsyncOf}
+use Rattle.sf_live_threads.specs.sf_commit.Releases.{ReleaseOf, CommittedOf}
 use Rattle.sf_play_write.specs.sf_play_report.declared.report.VsyncReport.{VsyncReport}
 use Rattle.sf_live_threads.specs.sf_surface.Tokens.{ReadLeaseOf}
 use Rattle.sf_live_threads.specs.sf_actor.Desks.{DeskHome, DeskView}
@@ -117,12 +117,10 @@ module _ {B : Type 0} where
   }
 
 -- the report of a vsync that told this
-abbrev pub reported : ℕ → Seen → ℕ → VsyncOf ReadLeaseOf → VsyncReport
+abbrev pub reported : ℕ → Seen → ℕ → CommittedOf ReadLeaseOf → VsyncReport
 reported before seen expected told = record {
   number = before + 1;
   expected = expected;
   seen = seen;
   commits = told.commits;
-  view = told.view;
-  sources = told.sources;
 }

@@ -1,9 +1,9 @@
 -- What a vsync shows can be composed by a plan, and what is written of it is that of its report.
-use Rattle.std.proofs.Common.{◌≡◌, ℕ, ◌≤◌, List, Option, Result, Ok, OnOk, arith, ap, ◌∙◌, length, map, sym, subst}
+use Rattle.std.proofs.Common.{◌≡◌, ℕ, ◌≤◌, List, Option, Result, Ok, OnOk, arith, ap, ◌∙◌, length, sym, subst}
 use Rattle.std.specs.Prelude.{IfOk}
 use Rattle.atomic_table.specs.Seated.{TableId}
 use Rattle.sf_live_threads.specs.sf_picture.declared.picture.Picture.{Picture}
-use Rattle.sf_live_threads.specs.sf_commit.Handlers.{HandlerOf, source_of}
+use Rattle.sf_live_threads.specs.sf_commit.Handlers.{HandlerOf}
 use Rattle.sf_play_write.specs.sf_output_plan.Due.{IsPlan}
 use Rattle.sf_play_write.specs.sf_output_plan.declared.plan.Plan.{Plan}
 use Rattle.sf_play_write.specs.sf_play_report.Stages.{AreExpected, IsStage}
@@ -14,10 +14,8 @@ use Rattle.sf_live_threads.specs.sf_calls_stamped.Stamps.{unstamped}
 use Rattle.sf_live_threads.specs.sf_surface.Tokens.{Issued, ReadLeaseOf}
 use Rattle.sf_live_threads.specs.sf_turns.Views.{SeatView}
 use Rattle.sf_live_threads.specs.sf_txn.declared.lease.Lease.{Ghosts}
-use Rattle.sf_live_threads.specs.sf_view.Views.{Views}
 use Rattle.sf_live_threads.specs.sf_actor.Plain.{taken_in}
 use Rattle.sf_live_threads.specs.sf_live_seats.declared.locks.Locks.{Locks}
-use Rattle.sf_play_write.proofs.sf_play_lemmas.StageAndContents.{sources_told, views_told}
 use Rattle.sf_play_write.specs.sf_play.Playing.{expected_by}
 use Rattle.sf_play_write.specs.Vsyncs.{vsync_shown}
 use Rattle.sf_play_write.specs.Writing.{Writes}
@@ -43,9 +41,8 @@ module _ {B : Type 0} (lease : Ghosts ReadLeaseOf SeatView ReadLeaseOf Issued) (
 
   -- what there is to show
   pub is_stage : (plan : Plan) (old new : Sitting B) (report : VsyncReport) → Makes old new report → IsPlan plan → MaySit plan old → length new.handler.tree.layers ≤ new.handler.tree.most
-      → ShowsBuffers new.handler → IsStage expected_by plan new.handler report.view report.sources
+      → ShowsBuffers new.handler → IsStage expected_by plan new.handler
   is_stage plan old new report makes planned may few buffers =
-      let vsync = makes.vsync in
       let limit = limit_is old new report makes in
       let low = may.few in
       record {
@@ -53,14 +50,6 @@ module _ {B : Type 0} (lease : Ghosts ReadLeaseOf SeatView ReadLeaseOf Issued) (
         few = omega (arith, few, limit, low);
         stands = buffers.stands;
         crops = buffers.crops;
-        view =
-            subst (λ (r : VsyncReport). Views new.handler.tree.layers plan.width plan.height r.view) makes.is
-            (subst (λ (h : ℕ). Views new.handler.tree.layers plan.width h vsync.told.view) may.high
-            (subst (λ (w : ℕ). Views new.handler.tree.layers w old.handler.height vsync.told.view) may.wide
-            (views_told lease old.handler new.handler vsync.took.turns vsync.turns vsync.arrived vsync.seen vsync.expected vsync.told vsync.decides)));
-        sources =
-            subst (λ (r : VsyncReport). r.sources ≡ map (source_of new.handler.on) r.view.drawn) makes.is
-            (sources_told lease old.handler new.handler vsync.took.turns vsync.turns vsync.arrived vsync.seen vsync.expected vsync.told vsync.decides);
       }
 
   -- another vsync may follow

@@ -60,8 +60,6 @@ module _ {B : Type 0} (lease : Ghosts ReadLeaseOf SeatView ReadLeaseOf Issued) (
       expected = vsync.expected;
       seen = vsync.seen;
       commits = vsync.told.commits;
-      view = vsync.told.view;
-      sources = vsync.told.sources;
     };
     handler = after.handler;
   }
@@ -155,7 +153,7 @@ module _ {B : Type 0} (lease : Ghosts ReadLeaseOf SeatView ReadLeaseOf Issued) (
     pub last : Sitting B
     pub sits : Sits lease table locks period plan most timelines before now screens last
     pub made : MakesVsync lease table locks period last sitting report
-    pub stage : IsStage expected_by plan sitting.handler report.view report.sources
+    pub stage : IsStage expected_by plan sitting.handler
 
   -- it came from a beginning by vsyncs, and these are written: all of them, or all but the last, where its report is due
   abbrev pub SitsWith : Option VsyncReport → Plan → ℕ → List ℕ → Option (List ℕ) → Option (List ℕ) → List OutputScreen → Sitting B → Type 0

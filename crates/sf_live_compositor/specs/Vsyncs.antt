@@ -7,7 +7,7 @@ use Rattle.sf_live_threads.specs.sf_token.Pending.{Arrival}
 use Rattle.sf_live_threads.specs.sf_turns.Views.{SeatView}
 use Rattle.sf_live_threads.specs.sf_txn.declared.lease.Lease.{Ghosts}
 use Rattle.sf_live_threads.specs.sf_commit.Handlers.{Decides, HandlerOf}
-use Rattle.sf_live_threads.specs.sf_commit.Releases.{VsyncOf}
+use Rattle.sf_live_threads.specs.sf_commit.Releases.{CommittedOf}
 use Rattle.sf_live_threads.specs.sf_actor.Tries.{Sees}
 use Rattle.sf_play_write.specs.law_rights.Standing.{GiveAll}
 use Rattle.sf_live_threads.specs.sf_live_seats.declared.locks.Locks.{Locks}
@@ -44,7 +44,7 @@ module _ {B : Type 0} (lease : Ghosts ReadLeaseOf SeatView ReadLeaseOf Issued) (
     pub sees : Sees (home_of locks before.seats) (view_of before.seats) (view_of looked) seen
     pub expected : ℕ
     pub due : expected ≡ after.number * period
-    pub told : VsyncOf ReadLeaseOf
+    pub told : CommittedOf ReadLeaseOf
     pub turns : SeatView
     pub decides : Decides lease before.handler took.turns arrived seen expected told after.handler turns
     pub gives : GiveAll (home_of locks took) after.number told.releases (view_of (record took { turns = turns })) (view_of after.seats)

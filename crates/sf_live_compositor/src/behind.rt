@@ -22,7 +22,7 @@ pub(crate) type Both = (
     Result<MadeVsync, NoMemory>,
 );
 
-/// Tells of a compositor's layers that they are no more than they may be, and that each shows the one
+/// States that a compositor's layers are no more than they may be, and that each shows the one
 /// buffer that stands for it. It does nothing.
 fn tell_layers<B: TableName>(handler: &Handler<ReadLease<B>>)
     ensures few { length handler.now.tree.layers ≤ handler.now.tree.most }

@@ -10,7 +10,7 @@ use sf_live_threads::{Locks, QCall, ReadLease, Release, Seats, TableName, settle
 use std::sync::Wait;
 
 /// Gives a frame back to its queue, as the compositor and for a vsync. A frame that the queue refuses
-/// is dropped. Only want of memory stops it, or a frame of no queue that is shared, which none of
+/// is dropped. Only running out of memory stops it, or a frame of no queue that is shared, which none of
 /// these queues gave.
 fn release_one<R: Wait, B: TableName>(
     rt: &R,

@@ -40,11 +40,11 @@ fn show_behind<R: Threads + Wait + Sync, K: Sink, B: TableName>(
     requires own { AreSeats B.table locks.now seats.old }
     requires first { seats.old.by ≡ 0 }
     requires plan { IsPlan plan.now }
-    requires stage { IsStage expected_by plan.now handler.old last.view last.sources }
+    requires stage { IsStage expected_by plan.now handler.old }
     requires may { MaySit plan.now (sitting_at handler.old seats.old before) }
     ensures makes { IfOk result (λ made. MakesVsync ⟦<ReadLease<B> as Lease>⟧ B.table locks.now period
         (sitting_at handler.old seats.old before) (sitting_at handler.new seats.new (before + 1)) made.report) }
-    ensures stage { IfOk result (λ made. IsStage expected_by plan.now handler.new made.report.view made.report.sources) }
+    ensures stage { OnOk result (IsStage expected_by plan.now handler.new) }
     ensures written { OnOk result (WritesLast plan.now timelines.now (K.taken sink.old) (K.taken sink.new) screens.old screens.new handler.old last) }
     ensures may { OnOk result (MaySit plan.now (sitting_at handler.new seats.new (before + 1))) }
     ensures lent { handler.new.lent ≡ None }
@@ -53,8 +53,8 @@ fn show_behind<R: Threads + Wait + Sync, K: Sink, B: TableName>(
     ensures later { K.faults sink.old ≤ K.faults sink.new }
     ensures failed { IsErrOf result RunFault.WriteFault → Rose (K.faults sink.old) (K.faults sink.new) }
 {
-    let (facts, views) = match vsync_views(engine.alloc, plan, handler, last) {
-        Ok(told) => told,
+    let views = match vsync_views(engine.alloc, plan, handler, &last) {
+        Ok(views) => views,
         Err(_) => return Err(RunFault::NoMemory),
     };
     let (composed, made) = make_behind(
@@ -63,7 +63,7 @@ fn show_behind<R: Threads + Wait + Sync, K: Sink, B: TableName>(
     let Ok(images) = composed else {
         return Err(RunFault::NoMemory);
     };
-    match write_vsync(engine.alloc, sink, timelines, screens, facts, images) {
+    match write_vsync(engine.alloc, sink, timelines, screens, last, images) {
         Ok(()) => {}
         Err(fault) => return Err(fault),
     }
@@ -93,7 +93,7 @@ fn show_first<R: Threads + Wait + Sync, B: TableName>(
     requires may { MaySit plan.now (sitting_at handler.old seats.old before) }
     ensures makes { IfOk result (λ made. MakesVsync ⟦<ReadLease<B> as Lease>⟧ B.table locks.now period
         (sitting_at handler.old seats.old before) (sitting_at handler.new seats.new (before + 1)) made.report) }
-    ensures stage { IfOk result (λ made. IsStage expected_by plan.now handler.new made.report.view made.report.sources) }
+    ensures stage { OnOk result (IsStage expected_by plan.now handler.new) }
     ensures shown { KeepsShown screens.old screens.new }
     ensures may { OnOk result (MaySit plan.now (sitting_at handler.new seats.new (before + 1))) }
     ensures lent { handler.new.lent ≡ None }
@@ -131,11 +131,11 @@ pub(crate) fn show_next<R: Threads + Wait + Sync, K: Sink, B: TableName>(
     requires own { AreSeats B.table locks.now seats.old }
     requires first { seats.old.by ≡ 0 }
     requires plan { IsPlan plan.now }
-    requires stage { IfSome due (λ last. IsStage expected_by plan.now handler.old last.view last.sources) }
+    requires stage { IfSome due (λ _. IsStage expected_by plan.now handler.old) }
     requires may { MaySit plan.now (sitting_at handler.old seats.old before) }
     ensures makes { IfOk result (λ made. MakesVsync ⟦<ReadLease<B> as Lease>⟧ B.table locks.now period
         (sitting_at handler.old seats.old before) (sitting_at handler.new seats.new (before + 1)) made.report) }
-    ensures stage { IfOk result (λ made. IsStage expected_by plan.now handler.new made.report.view made.report.sources) }
+    ensures stage { OnOk result (IsStage expected_by plan.now handler.new) }
     ensures written { OnOk result (WritesDue plan.now timelines.now (K.taken sink.old) (K.taken sink.new) screens.old screens.new handler.old due) }
     ensures may { OnOk result (MaySit plan.now (sitting_at handler.new seats.new (before + 1))) }
     ensures lent { handler.new.lent ≡ None }

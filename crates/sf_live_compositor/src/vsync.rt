@@ -1,5 +1,5 @@
 //! A vsync of a live run: it looks at the timelines, takes what arrived through the compositor's
-//! seats, decides, and gives back the frames that go; then it tells threads of its look.
+//! seats, decides, and gives back the frames that go; then it notifies threads of its look.
 ghost use Rattle.std.specs.Prelude.{◌≡◌, ◌+◌, ◌≤◌, OnOk};
 ghost use Rattle.sf_live_threads.specs.sf_actor.Plain.{taken_in};
 ghost use Rattle.sf_live_threads.specs.sf_live_seats.Seats.{AreSeats};
@@ -9,7 +9,7 @@ ghost use Rattle.sf_live_compositor.specs.Sitting.{MadeLent};
 
 use crate::release::release_all;
 use sf_base::{Items, NoMemory};
-use sf_live_threads::{Handler, Lease, Locks, Look, ReadLease, Seats, TableName, Vsync};
+use sf_live_threads::{Committed, Handler, Lease, Locks, Look, ReadLease, Seats, TableName};
 use sf_play_write::{VsyncReport, is_time};
 use std::sync::Wait;
 
@@ -57,10 +57,8 @@ fn make_vsync<R: Wait, B: TableName>(
     let seen = seats.see(locks);
     let arrived = seats.take(locks, rt)?;
     let is_full = arrived.len() >= MOST_TAKEN;
-    let Vsync {
+    let Committed {
         commits,
-        view,
-        sources,
         releases,
         held,
     } = seats.vsync(handler, arrived, &seen, expected)?;
@@ -74,8 +72,6 @@ fn make_vsync<R: Wait, B: TableName>(
         expected,
         seen,
         commits,
-        view,
-        sources,
     };
     Ok(MadeVsync {
         report,
@@ -84,7 +80,8 @@ fn make_vsync<R: Wait, B: TableName>(
     })
 }
 
-/// Makes the next vsync as `make_vsync` does, and then tells of the look at all that was done before.
+/// Makes the next vsync as `make_vsync` does, and then notifies threads of the look at all that was
+/// done before.
 pub(crate) fn make_and_tell<R: Wait, B: TableName>(
     rt: &R,
     look: &Look,

@@ -50,7 +50,7 @@ module _ {B : Type 0} {R C : Type 0} (lease : Ghosts ReadLeaseOf SeatView R C) (
         vsync = record {
           report = report;
           is = refl;
-          makes = record { told = made.told; makes = made.makes; number = made.number; expected = made.expected; commits = made.commits; view = made.view; sources = made.sources; held = made.held };
+          makes = record { told = made.told; makes = made.makes; number = made.number; expected = made.expected; commits = made.commits; held = made.held };
         };
         next = next_is ∙ (λ i. if stepped || (commits_are i || (waits_are ∙ ap (list_any (λ (h : ℕ × Hold). is_time h.1)) held_are) i) then at.Round 0 false else at.End);
       })
@@ -62,7 +62,7 @@ module _ {B : Type 0} {R C : Type 0} (lease : Ghosts ReadLeaseOf SeatView R C) (
       record {
         report = picks.report;
         is = picks.is;
-        makes = record { told = m.told; makes = m.makes; number = m.number; expected = m.expected; commits = m.commits; view = m.view; sources = m.sources; held = m.held };
+        makes = record { told = m.told; makes = m.makes; number = m.number; expected = m.expected; commits = m.commits; held = m.held };
       }
   picks_placed (suc n) old new place came_to picks = picks
 
@@ -86,7 +86,7 @@ module _ {B : Type 0} {R C : Type 0} (lease : Ghosts ReadLeaseOf SeatView R C) (
       record {
         report = acts.report;
         is = acts.is;
-        makes = record { told = m.told; makes = m.makes; number = m.number; expected = m.expected; commits = m.commits; view = m.view; sources = m.sources; held = m.held };
+        makes = record { told = m.told; makes = m.makes; number = m.number; expected = m.expected; commits = m.commits; held = m.held };
       }
 
   picks_freed : (number : ℕ) (old new : PlayerOf B) (spent free : Bool) (came_to : Action) → Picks lease table ofs number (record old { is_spent = spent }) new came_to → Picks lease table ofs number old (record new { is_spent = free }) came_to

@@ -1,6 +1,6 @@
 -- The next action of a player is that of the play of its scene.
 use Rattle.std.proofs.Common.{◌≡◌, ℕ, zero, suc, ◌+◌, ◌<◌, ◌≤◌, ◌==◌, Bool, true, false, ◌||◌, List, [], ◌∷◌, length, map, get_or, Option, Some, None, refl, sym, ap, ◌∙◌, subst, inl, inr, arith}
-use Rattle.std.specs.Prelude.{All, Contains, if◌then◌else◌, nat_lt, slice_get, ◌*◌}
+use Rattle.std.specs.Prelude.{All, Contains, if◌then◌else◌, nat_lt, slice_get}
 use Rattle.std.specs.List.{list_any, position, position_or_len}
 use Rattle.std.proofs.lemmas.Bool.{eq-eqb, eqb-true, ne_eqb}
 use Rattle.std.proofs.lemmas.Grind.{common_steps}
@@ -16,7 +16,7 @@ use Rattle.sf_play_report.specs.sf_surface.Tokens.{Issued, ReadLeaseOf}
 use Rattle.sf_play_report.specs.sf_surface.declared.mark.QueueMark.{QueueMark}
 use Rattle.sf_play_report.specs.sf_turns.Views.{SeatView}
 use Rattle.sf_play_report.specs.sf_txn.declared.lease.Lease.{Ghosts}
-use Rattle.sf_play_report.specs.sf_commit.Releases.{VsyncOf}
+use Rattle.sf_play_report.specs.sf_commit.Releases.{CommittedOf}
 use Rattle.sf_play_report.specs.sf_commit.declared.vsync.Commit.{Commit}
 use Rattle.sf_script_scene.specs.Limits.{IsPick}
 use Rattle.sf_script_scene.specs.Scene.{SceneValue, has_actor}
@@ -114,7 +114,7 @@ module _ {B : Type 0} where
 
 module _ {B : Type 0} where
   abbrev pub StageTold : SceneValue → Action → PlayOf B → Type 0
-  StageTold scene (action.Vsync report) play = TellsStage scene report play
+  StageTold scene (action.Vsync report) play = TellsStage scene play
   StageTold scene other play = Unit {0}
 
   -- after an action a player stands in a run of its scene, and along with the scene's play where it was so before
@@ -234,7 +234,7 @@ module _ {B : Type 0} where
 
     -- a vsync, in the order or behind a round
     module _ (v : TakesVsync lease table so.actors old new came_to) where
-      abbrev told : VsyncOf ReadLeaseOf
+      abbrev told : CommittedOf ReadLeaseOf
       told = v.makes.told
 
       abbrev report : VsyncReport
@@ -254,10 +254,9 @@ module _ {B : Type 0} where
           shown_with table scene marks so old.play stands rights marked keeps.desk.legal keeps.desk.knows keeps.own lease frames of_turns tells new.play report told makes v.makes.commits c cs are v.makes.number v.makes.expected
 
       -- what there is to show
-      staged : (later : SoFar B) → Stands table scene later new.play → TellsStage scene report new.play
+      staged : (later : SoFar B) → Stands table scene later new.play → TellsStage scene new.play
       staged later now = record {
-        stage = is_stage lease table scene later old.play new.play now keeps_now makes.took.desk.turns makes.decided.desk.turns makes.arrived report.seen ((old.play.vsyncs + 1) * old.play.period) told
-            makes.decides tells.shows report.view report.sources v.makes.view v.makes.sources;
+        stage = is_stage lease table scene later new.play now keeps_now tells.shows;
         expected = are_expected table scene later new.play now keeps_now.desk.legal;
       }
 

@@ -20,7 +20,7 @@ use Rattle.sf_play_report.specs.sf_txn.declared.lease.Lease.{Ghosts}
 use Rattle.sf_play_report.specs.sf_commit.Handlers.{Decides}
 use Rattle.sf_play_report.specs.sf_commit.Leases.{HandsBack, IsReleaseOf}
 use Rattle.sf_play_report.specs.sf_commit.OnLayers.{OnLayer}
-use Rattle.sf_play_report.specs.sf_commit.Releases.{ReleaseOf, VsyncOf}
+use Rattle.sf_play_report.specs.sf_commit.Releases.{ReleaseOf, CommittedOf}
 use Rattle.sf_play_report.specs.sf_commit.declared.vsync.Commit.{Commit}
 use Rattle.sf_script_scene.specs.Scene.{SceneValue, has_queue}
 use Rattle.sf_script_scene.specs.declared.declarations.Pick.{Pick}
@@ -109,7 +109,7 @@ module _ {B : Type 0} where
         ∙ ap (λ (run : Run). with_calls scene 0 number run (map release_asked (released_then number (map (framed_on frame_of) gone))))
         (one_run on release old gives.0 zip.0 (All-head (IsOnLent lent) on gone shows) gives.1)
 
-  module _ {R C : Type 0} (lease : Ghosts ReadLeaseOf SeatView R C) (frames : OfFrames lease) (table : TableId) (scene : SceneValue) (so : SoFar B) (old new : PlayOf B) (seen : Seen) (told : VsyncOf ReadLeaseOf)
+  module _ {R C : Type 0} (lease : Ghosts ReadLeaseOf SeatView R C) (frames : OfFrames lease) (table : TableId) (scene : SceneValue) (so : SoFar B) (old new : PlayOf B) (seen : Seen) (told : CommittedOf ReadLeaseOf)
       (stands : Stands table scene so old) (v : MakesVsync lease table old seen told new) where
     -- it saw what was signalled so far
     final_now : final_values scene (run_so so old) ≡ seen

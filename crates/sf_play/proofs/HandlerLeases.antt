@@ -18,7 +18,7 @@ use Rattle.sf_play_report.proofs.sf_commit_lemmas.DecideLemmas.{all_left}
 use Rattle.sf_play_report.proofs.sf_commit_lemmas.KnownLemmas.{Holds, holds_along}
 use Rattle.sf_play_report.specs.sf_commit.Handlers.{Decides, HandlerOf, begun}
 use Rattle.sf_play_report.specs.sf_commit.OnLayers.{OnLayer, brought, shown_on}
-use Rattle.sf_play_report.specs.sf_commit.Releases.{VsyncOf}
+use Rattle.sf_play_report.specs.sf_commit.Releases.{CommittedOf}
 use Rattle.sf_play_report.specs.sf_commit.Rounds.{Leads, Round, committed}
 use Rattle.sf_play_report.specs.sf_actor.Desks.{DeskView}
 use Rattle.sf_play.specs.Players.{IsBufferLent}
@@ -98,7 +98,7 @@ module _ {B : Type 0} where
     arrival_lent old new looked all =
         zip_all (IsLookedBuffer lease) (λ (b : Buffer ReadLeaseOf). IsBufferLent view b.shown b.lease) (λ (b : Buffer ReadLeaseOf). IsBufferLent view b.shown b.lease) looked_lent old.txn.buffers new.txn.buffers looked.buffers all
 
-    module _ (old new : HandlerOf ReadLeaseOf) (eye after : SeatView) (arrived : List (Arrival ReadLeaseOf)) (seen : Seen) (expected : ℕ) (told : VsyncOf ReadLeaseOf)
+    module _ (old new : HandlerOf ReadLeaseOf) (eye after : SeatView) (arrived : List (Arrival ReadLeaseOf)) (seen : Seen) (expected : ℕ) (told : CommittedOf ReadLeaseOf)
         (d : Decides lease old eye arrived seen expected told new after) (pending : All (IsArrivedLent view) old.pending) (came : All (IsArrivedLent view) arrived) (on : All (IsOnLent view) old.on) where
       pub looked_all : All (IsArrivedLent view) d.looked
       looked_all =

@@ -10,7 +10,7 @@ use Rattle.sf_play_report.specs.sf_token.Arrivals.{Calls, sent, waiting}
 use Rattle.sf_play_report.specs.sf_turns.Views.{SeatView}
 use Rattle.sf_play_report.specs.sf_txn.declared.lease.Lease.{Ghosts}
 use Rattle.sf_play_report.specs.sf_commit.Handlers.{Decides}
-use Rattle.sf_play_report.specs.sf_commit.Releases.{ReleaseOf, VsyncOf}
+use Rattle.sf_play_report.specs.sf_commit.Releases.{ReleaseOf, CommittedOf}
 use Rattle.sf_play_report.specs.sf_actor.Desks.{DeskHome, DeskView}
 use Rattle.sf_play_report.specs.sf_actor.Plain.{PlainOf, home_of, taken_in, view_of}
 use Rattle.law_rights.specs.sf_actor_set.ActorSets.{ActorSetOf}
@@ -49,7 +49,7 @@ module _ {B : Type 0} where
   gives_none home number (release ∷ later) old new gives =
       gives_none home number later gives.0 new gives.2 ∙ ap (λ (v : DeskView B). v.arrivals) gives.1.made.changes.same
 
-  module _ {R C : Type 0} (lease : Ghosts ReadLeaseOf SeatView R C) (table : TableId) (old new : PlayOf B) (seen : Seen) (told : VsyncOf ReadLeaseOf) (makes : MakesVsync lease table old seen told new) where
+  module _ {R C : Type 0} (lease : Ghosts ReadLeaseOf SeatView R C) (table : TableId) (old new : PlayOf B) (seen : Seen) (told : CommittedOf ReadLeaseOf) (makes : MakesVsync lease table old seen told new) where
     pub same_actors : new.actor_set.actors ≡ old.actor_set.actors
     same_actors =
         ap (λ (c : ActorSetOf B). c.actors) makes.only_gives.same ∙ ap (λ (c : ActorSetOf B). c.actors) makes.only_decides.same

@@ -8,7 +8,7 @@ use Rattle.sf_play_report.specs.sf_surface.Tokens.{Issued, ReadLeaseOf}
 use Rattle.sf_play_report.specs.sf_turns.Counts.{IsExact}
 use Rattle.sf_play_report.specs.sf_turns.Views.{SeatView}
 use Rattle.sf_play_report.specs.sf_txn.declared.lease.Lease.{Ghosts}
-use Rattle.sf_play_report.specs.sf_commit.Releases.{VsyncOf}
+use Rattle.sf_play_report.specs.sf_commit.Releases.{CommittedOf}
 use Rattle.sf_script_scene.specs.Scene.{SceneValue}
 use Rattle.sf_play_report.specs.sf_actor.declared.tried.Stepped.{Stepped}
 use Rattle.sf_play_report.specs.sf_actor.Desks.{DeskHome, KnowsAll}
@@ -54,14 +54,14 @@ module _ {B : Type 0} (table : TableId) (scene : SceneValue) (so : SoFar B) (old
       (are_over table scene so old stands rights.ledger legal) rights.ledger stands.desk.declared stands.of_scene.limits stands.tell.actors exact knows.first knows.none_out rights.makers rights.draws
 
   -- after a vsync
-  pub makers_vsync : (lease : Ghosts ReadLeaseOf SeatView ReadLeaseOf Issued) (frames : OfFrames lease) (of_turns : IsOfTurns lease) (tells : TellsAll lease) (new : PlayOf B) (seen : Seen) (told : VsyncOf ReadLeaseOf)
+  pub makers_vsync : (lease : Ghosts ReadLeaseOf SeatView ReadLeaseOf Issued) (frames : OfFrames lease) (of_turns : IsOfTurns lease) (tells : TellsAll lease) (new : PlayOf B) (seen : Seen) (told : CommittedOf ReadLeaseOf)
       → MakesVsync lease table old seen told new → MakersPlay scene (home_in new) (view_in new) so.actors new.handler
   makers_vsync lease frames of_turns tells new seen told v =
       subst (λ (h : DeskHome). MakersPlay scene h (view_in new) so.actors new.handler) (sym (home_then lease frames of_turns tells table scene so old new seen told stands rights.ledger v))
       (vsync_makers scene (home_in old) so.actors (view_in old) old.handler lease table.slots (view_in new) new.handler
       (vsync_in lease frames of_turns tells table scene so old new seen told stands rights.ledger v) rights.ledger tells.places stands.desk.declared rights.makers)
 
-  pub draws_vsync : (lease : Ghosts ReadLeaseOf SeatView ReadLeaseOf Issued) (frames : OfFrames lease) (of_turns : IsOfTurns lease) (tells : TellsAll lease) (new : PlayOf B) (seen : Seen) (told : VsyncOf ReadLeaseOf)
+  pub draws_vsync : (lease : Ghosts ReadLeaseOf SeatView ReadLeaseOf Issued) (frames : OfFrames lease) (of_turns : IsOfTurns lease) (tells : TellsAll lease) (new : PlayOf B) (seen : Seen) (told : CommittedOf ReadLeaseOf)
       → MakesVsync lease table old seen told new → DrawsStand scene (home_in new) (view_in new) so.actors new.handler
   draws_vsync lease frames of_turns tells new seen told v =
       subst (λ (h : DeskHome). DrawsStand scene h (view_in new) so.actors new.handler) (sym (home_then lease frames of_turns tells table scene so old new seen told stands rights.ledger v))

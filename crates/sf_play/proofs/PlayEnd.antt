@@ -13,7 +13,7 @@ use Rattle.sf_play_report.specs.sf_token.Arrivals.{Calls, waiting}
 use Rattle.sf_play_report.specs.sf_token.Pending.{Arrival}
 use Rattle.sf_play_report.specs.sf_turns.Views.{SeatView}
 use Rattle.sf_play_report.specs.sf_txn.declared.lease.Lease.{Ghosts}
-use Rattle.sf_play_report.specs.sf_commit.Releases.{VsyncOf}
+use Rattle.sf_play_report.specs.sf_commit.Releases.{CommittedOf}
 use Rattle.sf_script_scene.specs.Scene.{SceneValue, has_queue}
 use Rattle.sf_play_report.specs.sf_actor.Desks.{DeskView, KnowsAll}
 use Rattle.sf_play_report.specs.sf_actor.Known.{frame_of}
@@ -64,7 +64,7 @@ module _ {B : Type 0} where
     pub saw_final : (later : DeskView B) (seen : Seen) → Sees (home_in play) (view_in play) later seen → final_values scene (run_so so play) ≡ seen
     saw_final later seen sees = final_is scene so.actors (home_in play) (view_in play) seen stands.of_scene.limits stands.tell.actors stands.tell.signals sees.all (sees.exact refl)
 
-  module _ {R C : Type 0} (lease : Ghosts ReadLeaseOf SeatView R C) (frames : OfFrames lease) (table : TableId) (scene : SceneValue) (so : SoFar B) (old new : PlayOf B) (seen : Seen) (told : VsyncOf ReadLeaseOf)
+  module _ {R C : Type 0} (lease : Ghosts ReadLeaseOf SeatView R C) (frames : OfFrames lease) (table : TableId) (scene : SceneValue) (so : SoFar B) (old new : PlayOf B) (seen : Seen) (told : CommittedOf ReadLeaseOf)
       (stands : Stands table scene so old) (v : MakesVsync lease table old seen told new) where
     -- what a vsync that commits nothing told as held is held at the end, where no time holds anything and looks showed what is written
     pub held_at_end : told.commits ≡ [] → All (λ (h : ℕ × Hold). is_time h.1 ≡ false) told.held → ShowsWhatIsWritten frame_of lease.shown (written_so scene so old) v.decides.looked

@@ -20,7 +20,7 @@ use Rattle.sf_play_report.specs.sf_txn.declared.lease.Lease.{Ghosts}
 use Rattle.sf_play_report.specs.sf_commit.Handlers.{Decides}
 use Rattle.sf_play_report.specs.sf_commit.Leases.{ShowsLease}
 use Rattle.sf_play_report.specs.sf_commit.OnLayers.{OnLayer}
-use Rattle.sf_play_report.specs.sf_commit.Releases.{ReleaseOf, VsyncOf}
+use Rattle.sf_play_report.specs.sf_commit.Releases.{ReleaseOf, CommittedOf}
 use Rattle.sf_script_scene.specs.Limits.{IsWithinLimits}
 use Rattle.sf_script_scene.specs.Scene.{SceneValue}
 use Rattle.sf_script_scene.specs.declared.step.ActorScript.{ActorScript}
@@ -134,7 +134,7 @@ module _ {B : Type 0} (table : TableId) (scene : SceneValue) (so : SoFar B) (pla
         ∙ ap (λ (ws : List written.FrameNumber). is_written ws (frame_of lease)) (sym (wrote_so scene so.actors (home_in play) (view_in play) stands.of_scene.limits stands.tell.actors))
 
 module _ {B : Type 0} (lease : Ghosts ReadLeaseOf SeatView ReadLeaseOf Issued) (frames : OfFrames lease) (of_turns : IsOfTurns lease) (tells : TellsAll lease) (table : TableId) (scene : SceneValue) (so : SoFar B) (old new : PlayOf B) (seen : Seen)
-    (told : VsyncOf ReadLeaseOf) (stands : Stands table scene so old) (ledger : LedgerStands table.slots (home_in old) (view_in old) so.actors old.handler) (v : MakesVsync lease table old seen told new) where
+    (told : CommittedOf ReadLeaseOf) (stands : Stands table scene so old) (ledger : LedgerStands table.slots (home_in old) (view_in old) so.actors old.handler) (v : MakesVsync lease table old seen told new) where
   abbrev before : PlainOf B
   before = old.actor_set.desk
 

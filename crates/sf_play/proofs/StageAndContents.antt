@@ -1,31 +1,20 @@
--- What a vsync leaves to whoever shows it: the stage, and for each drawn layer of its view the place of its buffer.
-use Rattle.std.proofs.Common.{◌≡◌, ℕ, ◌+◌, ◌≤◌, ◌==◌, List, [], ◌∷◌, length, map, cond, None, Some, refl, ap, sym, ◌∙◌, subst, inl, inr, arith}
-use Rattle.std.specs.Prelude.{nat_lt, true}
-use Rattle.std.specs.List.{position_or_len}
-use Rattle.std.specs.Option.{unwrap_or}
-use Rattle.std.proofs.lemmas.Bool.{cases_Bool, eqb-true}
+-- What a vsync leaves to whoever shows it: the stage, whose buffers have the scene's pictures.
+use Rattle.std.proofs.Common.{◌≡◌, ℕ, ◌≤◌, ◌==◌, length, ap, sym, ◌∙◌, subst, arith}
+use Rattle.std.specs.Prelude.{true}
+use Rattle.std.proofs.lemmas.Bool.{eqb-true}
 use Rattle.std.proofs.lemmas.List.Elements.{All-contains, All-weaker}
-use Rattle.std.proofs.lemmas.List.{length-map}
 use Rattle.atomic_table.specs.Seated.{TableId}
-use Rattle.sf_base.specs.declared.fences.Seen.{Seen}
-use Rattle.sf_base.specs.declared.ids.LayerId.{LayerId}
 use Rattle.sf_play_report.specs.sf_layer.declared.shown.Shown.{Shown}
-use Rattle.sf_play_report.specs.sf_tree.Trees.{TreeOf}
-use Rattle.sf_play_report.specs.sf_view.Views.{ViewOf, Views}
-use Rattle.sf_play_report.specs.sf_view.declared.drawn.Drawn.{Drawn}
 use Rattle.sf_play_report.specs.sf_calls.Histories.{IsLegal}
 use Rattle.sf_play_report.specs.sf_surface.Histories.{Answers}
 use Rattle.sf_play_report.specs.sf_surface.Reading.{PlainLease}
 use Rattle.sf_play_report.specs.sf_surface.Tokens.{ReadLeaseOf}
 use Rattle.sf_play_report.specs.sf_surface.declared.mark.QueueMark.{QueueMark}
-use Rattle.sf_play_report.specs.sf_token.Pending.{Arrival}
 use Rattle.sf_play_report.specs.sf_turns.Views.{SeatView}
 use Rattle.sf_play_report.specs.sf_txn.Buffers.{Shows}
 use Rattle.sf_play_report.specs.sf_txn.declared.lease.Lease.{Ghosts}
-use Rattle.sf_play_report.specs.sf_commit.Handlers.{Decides, HandlerOf, source_of}
 use Rattle.sf_play_report.specs.sf_commit.Leases.{ShowsLease}
-use Rattle.sf_play_report.specs.sf_commit.OnLayers.{OnLayer, is_on, shown_on}
-use Rattle.sf_play_report.specs.sf_commit.Releases.{VsyncOf}
+use Rattle.sf_play_report.specs.sf_commit.OnLayers.{OnLayer}
 use Rattle.sf_script_scene.specs.Scene.{SceneValue, has_queue}
 use Rattle.sf_play_report.specs.sf_actor.Desks.{mark_among}
 use Rattle.sf_play_report.specs.sf_actor.Known.{frame_of}
@@ -42,36 +31,6 @@ use Rattle.sf_play.proofs.SeenTimelines.{one_passes}
 use Rattle.sf_play.specs.Players.{IsBufferLent, PlayOf, SoFar, home_in, taken_at, view_in, written_so}
 use Rattle.sf_play.specs.Players.{Stands as PlayStands}
 use Rattle.sf_play.specs.Playing.{KeepsItself, expected_by}
-
--- the place of a layer's buffer does not change where what shows is read
-place_read : (layer : LayerId) (on : List (OnLayer ReadLeaseOf)) → position_or_len (is_on layer) (map shown_on on) ≡ position_or_len (is_on layer) on
-place_read layer [] = refl
-place_read layer (one ∷ on) = elim (cases_Bool (is_on layer one)) [
-  | inl met ↦ rw met refl
-  | inr unmet ↦ rw unmet (ap (λ (n : ℕ). 1 + n) (place_read layer on))
-]
-
-source_read : (on : List (OnLayer ReadLeaseOf)) (drawn : Drawn) → source_of on drawn ≡ source_of (map shown_on on) drawn
-source_read on drawn =
-    let place = place_read drawn.layer on in
-    let many = length-map on shown_on in
-    (λ i. unwrap_or (cond (nat_lt (sym place i) (sym many i)) (Some (sym place i)) None) 0)
-
--- what a vsync tells of its view and its sources is of the handler that it leaves
-module _ {R C : Type 0} (lease : Ghosts ReadLeaseOf SeatView R C) (old new : HandlerOf ReadLeaseOf) (eye after : SeatView) (arrived : List (Arrival ReadLeaseOf)) (seen : Seen) (expected : ℕ) (told : VsyncOf ReadLeaseOf)
-    (d : Decides lease old eye arrived seen expected told new after) where
-  pub views_told : Views new.tree.layers old.width old.height told.view
-  views_told = subst (λ (t : TreeOf). Views t.layers old.width old.height told.view) (sym (ap (λ (h : HandlerOf ReadLeaseOf). h.tree) d.settled.state)) d.settled.view
-
-  pub sources_told : told.sources ≡ map (source_of new.on) told.view.drawn
-  sources_told =
-      d.settled.sources
-      ∙ each_read told.view.drawn
-      ∙ ap (λ (h : HandlerOf ReadLeaseOf). map (source_of h.on) told.view.drawn) (sym d.settled.state)
-    where
-      each_read : (ds : List Drawn) → map (source_of d.end.stage.on) ds ≡ map (source_of (map shown_on d.end.stage.on)) ds
-      each_read [] = refl
-      each_read (drawn ∷ ds) = (λ i. source_read d.end.stage.on drawn i ∷ each_read ds i)
 
 module _ {B : Type 0} where
   -- the calls on the desk are those of the scene, where they are legal
@@ -102,8 +61,7 @@ module _ {B : Type 0} where
       (λ (one : OnLayer ReadLeaseOf). buffer_expects table scene so play stands (calls_are table scene so play stands legal) one) play.handler.on stands.leases.on
 
   -- after a vsync there is a stage for the scene's plan
-  module _ {R C : Type 0} (lease : Ghosts ReadLeaseOf SeatView R C) (table : TableId) (scene : SceneValue) (so : SoFar B) (old new : PlayOf B) (stands : PlayStands table scene so new) (keeps : KeepsItself lease table new)
-      (eye after : SeatView) (arrived : List (Arrival ReadLeaseOf)) (seen : Seen) (expected : ℕ) (told : VsyncOf ReadLeaseOf) (d : Decides lease old.handler eye arrived seen expected told new.handler after)
+  module _ {R C : Type 0} (lease : Ghosts ReadLeaseOf SeatView R C) (table : TableId) (scene : SceneValue) (so : SoFar B) (new : PlayOf B) (stands : PlayStands table scene so new) (keeps : KeepsItself lease table new)
       (shows : (one : OnLayer ReadLeaseOf) → ShowsLease lease one → Shows one.shown one.lease.turn.expects) where
     few : length new.handler.tree.layers ≤ 1024
     few =
@@ -112,21 +70,13 @@ module _ {B : Type 0} where
         let low = few_layers scene.version in
         omega (arith, room, most, low)
 
-    views : Views new.handler.tree.layers scene.width scene.height told.view
-    views =
-        subst (λ (h : ℕ). Views new.handler.tree.layers scene.width h told.view) (sym (ap (λ (h : HandlerOf ReadLeaseOf). h.height) d.settled.state) ∙ stands.of_scene.height)
-        (subst (λ (w : ℕ). Views new.handler.tree.layers w old.handler.height told.view) (sym (ap (λ (h : HandlerOf ReadLeaseOf). h.width) d.settled.state) ∙ stands.of_scene.width)
-        (views_told lease old.handler new.handler eye after arrived seen expected told d))
-
-    pub is_stage : (view : ViewOf) (sources : List ℕ) → view ≡ told.view → sources ≡ told.sources → IsStage expected_by (plan_of scene) new.handler view sources
+    pub is_stage : IsStage expected_by (plan_of scene) new.handler
     unfolding plan_of
-    is_stage view sources same is =
+    is_stage =
         let handler = keeps.handler stands.of_scene.decides in
         record {
           planned = is_plan scene stands.of_scene.limits;
           few = few;
           stands = handler.stands;
           crops = All-weaker (ShowsLease lease) (λ (one : OnLayer ReadLeaseOf). Shows one.shown (expected_by one)) shows new.handler.on handler.crops;
-          view = subst (Views new.handler.tree.layers scene.width scene.height) (sym same) views;
-          sources = is ∙ sources_told lease old.handler new.handler eye after arrived seen expected told d ∙ ap (λ (w : ViewOf). map (source_of new.handler.on) w.drawn) (sym same);
         }

@@ -10,7 +10,7 @@ use Rattle.sf_play_report.specs.sf_surface.declared.mark.QueueMark.{QueueMark}
 use Rattle.sf_play_report.specs.sf_token.Pending.{Arrival}
 use Rattle.sf_play_report.specs.sf_turns.Views.{SeatView}
 use Rattle.sf_play_report.specs.sf_txn.declared.lease.Lease.{Ghosts}
-use Rattle.sf_play_report.specs.sf_commit.Releases.{VsyncOf}
+use Rattle.sf_play_report.specs.sf_commit.Releases.{CommittedOf}
 use Rattle.sf_play_report.specs.sf_commit.declared.vsync.Commit.{Commit}
 use Rattle.sf_script_scene.specs.Scene.{SceneValue}
 use Rattle.sf_script_scene.specs.declared.step.ActorScript.{ActorScript}
@@ -147,7 +147,7 @@ module _ {B : Type 0} (table : TableId) (scene : SceneValue) (marks : List Queue
     }
 
   -- a vsync was made
-  module _ (lease : Ghosts ReadLeaseOf SeatView ReadLeaseOf Issued) (frames : OfFrames lease) (of_turns : IsOfTurns lease) (tells : TellsAll lease) (new : PlayOf B) (report : VsyncReport) (told : VsyncOf ReadLeaseOf)
+  module _ (lease : Ghosts ReadLeaseOf SeatView ReadLeaseOf Issued) (frames : OfFrames lease) (of_turns : IsOfTurns lease) (tells : TellsAll lease) (new : PlayOf B) (report : VsyncReport) (told : CommittedOf ReadLeaseOf)
       (v : MakesVsync lease table old report.seen told new) (commits : report.commits ≡ told.commits) where
     plays_now : All (MayPlay (home_in new) scene.pictures) (scripts_of new.actor_set.actors)
     plays_now = subst (λ (h : DeskHome). All (MayPlay h scene.pictures) (scripts_of new.actor_set.actors)) (sym (home_now lease frames table scene so old new report.seen told stands v))

@@ -19,7 +19,7 @@ use Rattle.sf_play_report.specs.sf_txn.declared.lease.Lease.{Ghosts}
 use Rattle.sf_play_report.specs.sf_commit.Handlers.{HandlerOf, last_of}
 use Rattle.sf_play_report.specs.sf_commit.OnLayers.{OnLayer}
 use Rattle.sf_play_report.specs.sf_commit.Leases.{IsReleaseOf}
-use Rattle.sf_play_report.specs.sf_commit.Releases.{ReleaseOf, VsyncOf}
+use Rattle.sf_play_report.specs.sf_commit.Releases.{ReleaseOf, CommittedOf}
 use Rattle.sf_play_report.specs.sf_commit.declared.vsync.Commit.{Commit}
 use Rattle.sf_script_scene.specs.Scene.{SceneValue, has_queue}
 use Rattle.sf_script_scene.specs.declared.declarations.QueueDecl.{QueueDecl}
@@ -109,7 +109,7 @@ module _ {B : Type 0} where
         (subst (All (IsArrivedLent (view_of play.actor_set.desk))) (sent_is play.actor_set.desk.arrivals)
         (arrivals_lent scene so.actors (home_of play.actor_set.desk) (view_of play.actor_set.desk) stands.tell.actors stands.tell.senders)))
 
-  module _ {R C : Type 0} (lease : Ghosts ReadLeaseOf SeatView R C) (frames : OfFrames lease) (table : TableId) (scene : SceneValue) (so : SoFar B) (old new : PlayOf B) (seen : Seen) (told : VsyncOf ReadLeaseOf)
+  module _ {R C : Type 0} (lease : Ghosts ReadLeaseOf SeatView R C) (frames : OfFrames lease) (table : TableId) (scene : SceneValue) (so : SoFar B) (old new : PlayOf B) (seen : Seen) (told : CommittedOf ReadLeaseOf)
       (stands : Stands table scene so old) (v : MakesVsync lease table old seen told new) where
     abbrev number : ℕ
     number = old.vsyncs + 1

@@ -21,7 +21,7 @@ use Rattle.sf_play_report.specs.sf_txn.declared.lease.Lease.{Ghosts}
 use Rattle.sf_play_report.specs.sf_commit.Handlers.{Decides, HandlerOf, last_of}
 use Rattle.sf_play_report.specs.sf_commit.Leases.{IsReleaseOf}
 use Rattle.sf_play_report.specs.sf_commit.OnLayers.{OnLayer}
-use Rattle.sf_play_report.specs.sf_commit.Releases.{ReleaseOf, VsyncOf}
+use Rattle.sf_play_report.specs.sf_commit.Releases.{ReleaseOf, CommittedOf}
 use Rattle.sf_script_scene.specs.Scene.{SceneValue}
 use Rattle.sf_play_report.specs.sf_actor.Desks.{DeskHome, MadeCall, has_queue}
 use Rattle.sf_play_report.specs.sf_actor.Plain.{PlainOf, calls_among, home_of, taken_in, view_of}
@@ -86,7 +86,7 @@ module _ {B : Type 0} where
     pub rises_then : IsRisingFrom play.handler.last arrived (last_of play.handler.last arrived)
     rises_then = arrived_rises table scene so play stands arrived all_taken
 
-    module _ {R C : Type 0} (lease : Ghosts ReadLeaseOf SeatView R C) (handler : HandlerOf ReadLeaseOf) (eye after : SeatView) (seen : Seen) (expected : ℕ) (told : VsyncOf ReadLeaseOf)
+    module _ {R C : Type 0} (lease : Ghosts ReadLeaseOf SeatView R C) (handler : HandlerOf ReadLeaseOf) (eye after : SeatView) (seen : Seen) (expected : ℕ) (told : CommittedOf ReadLeaseOf)
         (d : Decides lease play.handler eye arrived seen expected told handler after) (frames : OfFrames lease) where
       goes : All (IsOnLent (view_of play.actor_set.desk)) d.end.stage.gone
       goes = gone_lent lease frames (view_of play.actor_set.desk) play.handler handler eye after arrived seen expected told d stands.leases.pending (arrived_lent table scene so play stands arrived all_taken) stands.leases.on

@@ -20,7 +20,7 @@ use Rattle.sf_play_report.specs.sf_token.Loads.{IsLookedArrival}
 use Rattle.sf_play_report.specs.sf_token.Pending.{Arrival, head_of, is_of}
 use Rattle.sf_play_report.specs.sf_commit.Handlers.{Decides, HandlerOf, begun}
 use Rattle.sf_play_report.specs.sf_commit.declared.vsync.Commit.{Commit}
-use Rattle.sf_play_report.specs.sf_commit.Releases.{VsyncOf}
+use Rattle.sf_play_report.specs.sf_commit.Releases.{CommittedOf}
 use Rattle.sf_play_report.specs.sf_tree.Changes.{Rejection, after}
 use Rattle.sf_play_report.specs.sf_tree.Trees.{TreeOf}
 use Rattle.sf_play_report.specs.sf_commit.Rounds.{Leads, Round, commit_of, committed, facts_of, hold_at, stage_with}
@@ -242,7 +242,7 @@ module _ {L : Type 0} where
     waits_there r (arrived ∷ later) e = there_now r arrived later (hold_at drawn seen expected r arrived) refl (waits_there r later) e
 
   -- what a vsync leaves to be committed, where it was at this time; it is less where it committed something, or something waits
-  pub left_by_vsync : {E R C : Type 0} (lease : Ghosts L E R C) (old new : HandlerOf L) (eye later : E) (arrived : List (Arrival L)) (seen : Seen) (now period : ℕ) (told : VsyncOf L)
+  pub left_by_vsync : {E R C : Type 0} (lease : Ghosts L E R C) (old new : HandlerOf L) (eye later : E) (arrived : List (Arrival L)) (seen : Seen) (now period : ℕ) (told : CommittedOf L)
       → Decides lease old eye arrived seen (now + period) told new later
       → to_commit (now + period) new.pending ≤ to_commit now old.pending + to_commit now arrived
   left_by_vsync lease old new eye later arrived seen now period told d =
@@ -253,7 +253,7 @@ module _ {L : Type 0} where
       let less = weights_later now period d.end.pending in
       omega (arith, pending, sum, looked, both, less)
 
-  pub less_by_vsync : {E R C : Type 0} (lease : Ghosts L E R C) (old new : HandlerOf L) (eye later : E) (arrived : List (Arrival L)) (seen : Seen) (now period : ℕ) (told : VsyncOf L)
+  pub less_by_vsync : {E R C : Type 0} (lease : Ghosts L E R C) (old new : HandlerOf L) (eye later : E) (arrived : List (Arrival L)) (seen : Seen) (now period : ℕ) (told : CommittedOf L)
       → 1000000 ≤ period → period ≤ 1000000000 → Decides lease old eye arrived seen (now + period) told new later
       → (told.commits ≢ []) ⊎ (list_any (λ (one : ℕ × Hold). is_time one.1) told.held ≡ true)
       → to_commit (now + period) new.pending + 1 ≤ to_commit now old.pending + to_commit now arrived

@@ -36,6 +36,11 @@ abbrev pub is_step : Action → Bool
 is_step (action.Step place) = true
 is_step other = false
 
+-- nothing will be done any more
+abbrev pub is_end : Action → Bool
+is_end action.End = true
+is_end other = false
+
 module _ {B : Type 0} where
   -- these actors keep what they keep
   abbrev pub KeepsActorSet : TableId → PlayOf B → List (ActorOf B) → Type 0

@@ -1,4 +1,4 @@
--- Where a player stands, told by how far the play of its scene has come.
+-- Where a player stands, by how far the play of its scene has come.
 use Rattle.std.specs.Prelude.{◌≡◌, ℕ, ◌-◌, ◌≤◌, ◌==◌, Bool, false, not, ◌||◌, if◌then◌else◌}
 use Rattle.std.specs.Prelude.{List, [], ◌∷◌, ◌++◌, drop, length, map, replicate, Some, None}
 use Rattle.std.specs.List.{flat_map, list_all, list_any}

@@ -6,7 +6,7 @@ use Rattle.sf_play_report.specs.sf_turns.Views.{SeatView}
 use Rattle.sf_play_report.specs.sf_txn.declared.lease.Lease.{Ghosts}
 use Rattle.sf_base.specs.declared.fences.Seen.{Seen}
 use Rattle.atomic_table.specs.Seated.{TableId}
-use Rattle.sf_play_report.specs.sf_commit.Releases.{VsyncOf}
+use Rattle.sf_play_report.specs.sf_commit.Releases.{CommittedOf}
 use Rattle.sf_script_scene.specs.Scene.{SceneValue}
 use Rattle.sf_play_report.specs.sf_actor.Known.{frame_of}
 use Rattle.sf_play_report.specs.sf_actor.Makers.{Run}
@@ -72,10 +72,10 @@ module _ {B : Type 0} where
   RestsAt scene so player at.End = IsAtEnd scene so player
   RestsAt scene so player other = Unit {0}
 
-  -- looks tell what is owed and what is written: an earlier turn at pixels is an older draw, and a write has ended exactly
+  -- looks show what is owed and what is written: an earlier turn at pixels is an older draw, and a write has ended exactly
   -- where it is done
   pub record LooksTell {R C : Type 0} (lease : Ghosts ReadLeaseOf SeatView R C) (table : TableId) (scene : SceneValue) (so : SoFar B)
       (old new : PlayOf B) : Type 0 where
     pub older : (of : ActorOf B) → Contains so.actors of → TellsOlder scene (run_so so new) of (view_in old) (view_in new)
-    pub written : (seen : Seen) (told : VsyncOf ReadLeaseOf) (v : MakesVsync lease table old seen told new)
+    pub written : (seen : Seen) (told : CommittedOf ReadLeaseOf) (v : MakesVsync lease table old seen told new)
         → ShowsWhatIsWritten frame_of lease.shown (written_so scene so old) v.decides.looked

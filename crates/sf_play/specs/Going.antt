@@ -1,4 +1,4 @@
--- What an action of a player tells who shows it: it goes on with a run of the scene, up to its end, and along with the scene's play.
+-- What an action of a player says to who shows it: it goes on with a run of the scene, up to its end, and along with the scene's play.
 use Rattle.std.specs.Prelude.{◌≡◌, ℕ, ◌<◌, true, List, All}
 use Rattle.atomic_table.specs.Seated.{TableId}
 use Rattle.sf_script_scene.specs.Scene.{SceneValue}
@@ -10,7 +10,6 @@ use Rattle.sf_play_report.specs.law_played.Frames.{plan_of}
 use Rattle.sf_play_report.specs.law_played.Played.{FitsWhere, records_of}
 use Rattle.law_play_order.specs.Happening.{HappenedInOrder}
 use Rattle.sf_play_report.specs.Stages.{AreExpected, IsStage}
-use Rattle.sf_play_report.specs.declared.report.VsyncReport.{VsyncReport}
 use Rattle.sf_play.specs.Ending.{shows_at_end}
 use Rattle.sf_play.specs.Fuel.{fuel}
 use Rattle.sf_play.specs.Happening.{Happens}
@@ -22,9 +21,9 @@ use Rattle.sf_play.specs.declared.action.Action.{Action}
 use Rattle.sf_play.specs.declared.action.Action.TheVariants as action
 
 module _ {B : Type 0} where
-  -- What a vsync leaves to whoever shows it: the stage, whose buffers have the scene's pictures.
-  pub record TellsStage (scene : SceneValue) (report : VsyncReport) (play : PlayOf B) : Type 0 where
-    pub stage : IsStage expected_by (plan_of scene) play.handler report.view report.sources
+  -- What a vsync leaves to be shown: the stage, whose buffers have the scene's pictures.
+  pub record TellsStage (scene : SceneValue) (play : PlayOf B) : Type 0 where
+    pub stage : IsStage expected_by (plan_of scene) play.handler
     pub expected : AreExpected expected_by (picture_at scene.pictures) play.handler
 
   -- the records of a player that has shown this much and is at its end
@@ -37,13 +36,13 @@ module _ {B : Type 0} where
     pub are : ArePlayRecords scene (records_so scene so player)
     pub means : All RecordFits (records_so scene so player) → HappenedInOrder true scene (records_so scene so player)
 
-  -- at its end what a player has shown fits the run that its actors tell, where its desk tells places or not
+  -- at its end what a player has shown fits the run of its actors, where its desk reports places or not
   abbrev pub EndsRun : SceneValue → SoFar B → PlayerOf B → Type 0
   EndsRun scene so player = FitsWhere (home_in player.play).tells scene (shows_at_end scene so player) (run_so so player.play) (arrived_at player.play)
 
-  -- what an action tells beside what happened: a vsync its stage, and the end what is then
+  -- what an action says beside what happened: a vsync its stage, and the end what is then
   abbrev pub Tells : (SoFar B → PlayerOf B → Type 0) → SceneValue → Action → SoFar B → PlayerOf B → Type 0
-  Tells Ends scene (action.Vsync report) so player = TellsStage scene report player.play
+  Tells Ends scene (action.Vsync report) so player = TellsStage scene player.play
   Tells Ends scene action.End so player = Ends so player
   Tells Ends scene other so player = Unit {0}
 

@@ -78,7 +78,7 @@ module _ {B : Type 0} where
   abbrev pub view_in : PlayOf B → DeskView B
   view_in play = view_of play.actor_set.desk
 
-  -- the run that the actors and the desk tell
+  -- the run of the actors and the desk
   abbrev pub run_so : SoFar B → PlayOf B → Run
   run_so so play = run_of so.actors (home_in play) (view_in play)
 

@@ -4,7 +4,7 @@ use Rattle.atomic_table.specs.Seated.{TableId}
 use Rattle.sf_picture.specs.declared.picture.Picture.{Picture}
 use Rattle.sf_play_report.specs.sf_commit.Handlers.{IsHandler}
 use Rattle.sf_play_report.specs.sf_commit.OnLayers.{OnLayer}
-use Rattle.sf_play_report.specs.sf_commit.Releases.{VsyncOf}
+use Rattle.sf_play_report.specs.sf_commit.Releases.{CommittedOf}
 use Rattle.sf_play_report.specs.sf_surface.Tokens.{ReadLeaseOf}
 use Rattle.sf_play_report.specs.sf_turns.Views.{SeatView}
 use Rattle.sf_play_report.specs.sf_txn.declared.lease.Lease.{Ghosts}
@@ -50,11 +50,9 @@ module _ {B : Type 0} {R C : Type 0} (lease : Ghosts ReadLeaseOf SeatView R C) w
 
   -- a vsync was made, and this is its report
   pub record MakesReport (table : TableId) (old new : PlayerOf B) (report : VsyncReport) : Type 0 where
-    pub told : VsyncOf ReadLeaseOf
+    pub told : CommittedOf ReadLeaseOf
     pub makes : MakesVsync lease table old.play report.seen told new.play
     pub number : report.number ≡ old.play.vsyncs + 1
     pub expected : report.expected ≡ (old.play.vsyncs + 1) * old.play.period
     pub commits : report.commits ≡ told.commits
-    pub view : report.view ≡ told.view
-    pub sources : report.sources ≡ told.sources
     pub held : new.held ≡ told.held

@@ -1,4 +1,4 @@
--- What a player keeps: it stands in a run of its scene, whoever did the steps before. One that did them all itself stands along
+-- What a player keeps: it stands in a run of its scene, no matter who did the steps before. One that did them all itself stands along
 -- with the play of its scene, too, which determines what it shows.
 use Rattle.std.specs.Prelude.{◌≡◌, false, true, [], None, map}
 use Rattle.atomic_table.specs.Seated.{TableId}
@@ -26,7 +26,7 @@ module _ {B : Type 0} where
     pub rights : KeepsRights table scene so player.play
     pub marks : (home_in player.play).marks ≡ map mark_declared (rising_queues scene)
 
-  -- it has come as far, too, as the play of the scene that showed as much, over a desk that tells places
+  -- it has come as far, too, as the play of the scene that showed as much, over a desk that reports places
   pub record StandsAlong (table : TableId) (scene : SceneValue) (so : SoFar B) (player : PlayerOf B) : Type 0 where
     pub in_run : StandsInRun table scene so player
     pub along : PlaysSo scene so player.play player.place

@@ -3,7 +3,7 @@ use Rattle.std.specs.Prelude.{◌≡◌, ◌+◌, ◌*◌, List}
 use Rattle.atomic_table.specs.Seated.{TableId}
 use Rattle.sf_base.specs.declared.fences.Seen.{Seen}
 use Rattle.sf_play_report.specs.sf_commit.Handlers.{Decides}
-use Rattle.sf_play_report.specs.sf_commit.Releases.{VsyncOf}
+use Rattle.sf_play_report.specs.sf_commit.Releases.{CommittedOf}
 use Rattle.sf_play_report.specs.sf_surface.Tokens.{ReadLeaseOf}
 use Rattle.sf_play_report.specs.sf_token.Pending.{Arrival}
 use Rattle.sf_play_report.specs.sf_turns.Views.{SeatView}
@@ -17,7 +17,7 @@ use Rattle.sf_play.specs.Players.{PlayOf}
 
 -- It looks at the timelines, takes what arrived, decides, and gives back the frames that go. Each part changes the desk alone.
 module _ {B : Type 0} {R C : Type 0} (lease : Ghosts ReadLeaseOf SeatView R C) where
-  pub record MakesVsync (table : TableId) (old : PlayOf B) (seen : Seen) (told : VsyncOf ReadLeaseOf) (new : PlayOf B) : Type 0 where
+  pub record MakesVsync (table : TableId) (old : PlayOf B) (seen : Seen) (told : CommittedOf ReadLeaseOf) (new : PlayOf B) : Type 0 where
     pub looked : ActorSetOf B
     pub sees : Sees (home_of old.actor_set.desk) (view_of old.actor_set.desk) (view_of looked.desk) seen
     pub times : looked.desk ≡ record old.actor_set.desk { times = looked.desk.times }

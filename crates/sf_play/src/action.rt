@@ -13,7 +13,7 @@ ghost use Rattle.sf_play.specs.Playing.{MayMakeVsync};
 ghost use Rattle.sf_play.specs.Standing.{StandsAlong, StandsInRun};
 ghost use Rattle.sf_play.specs.declared.place.Place.TheVariants as at;
 ghost use Rattle.sf_play_report.specs.Reports.{has_commits};
-ghost use Rattle.sf_play.specs.Actions.{KeepsActorSet, Picks, Rounds, TriesStep, TakesAction, TakesActionAt, is_step, next_tried, picked_place, action_by};
+ghost use Rattle.sf_play.specs.Actions.{KeepsActorSet, Picks, Rounds, TriesStep, TakesAction, TakesActionAt, is_step, next_tried, picked_place, action_by, is_end};
 
 use crate::kept::KeptReport;
 use crate::place::Place;
@@ -40,6 +40,16 @@ impl Action {
     {
         match self {
             Action::Step(_) => true,
+            _ => false,
+        }
+    }
+
+    /// Whether nothing will be done any more.
+    pub fn is_end(&self) -> bool
+        ensures { result ≡ is_end self.now }
+    {
+        match self {
+            Action::End => true,
             _ => false,
         }
     }

@@ -1,5 +1,5 @@
-//! The report of a vsync in memory of its own: it is handed up from the player to whoever writes
-//! its records, inside types that should stay small.
+//! The report of a vsync in memory of its own: it is handed up from the player to the writer of its
+//! records, inside types that should stay small.
 ghost use Rattle.std.specs.Prelude.{◌≡◌, IfOk};
 
 use sf_base::NoMemory;
@@ -22,7 +22,7 @@ impl Model for KeptReport {
 }
 
 impl KeptReport {
-    /// Only want of memory refuses it.
+    /// Its only error is out of memory.
     pub fn new(alloc: Global, report: VsyncReport) -> Result<KeptReport, NoMemory>
         ensures { IfOk result (λ kept. kept ≡ report) }
     {

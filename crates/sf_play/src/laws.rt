@@ -35,8 +35,8 @@ pub fn the_next_actor_is_the_one_that_is_tried<B: TableName>()
         → came_to ≡ action.Step place → next_tried old ≡ Some place }
 {}
 
-/// Whoever did the steps of a run: where a player that stands in it is at its end, what was shown
-/// fits the run that the actors tell.
+/// No matter which threads did the steps of a run: where a player that stands in it is at its end,
+/// what was shown fits the run of the actors.
 pub fn what_stands_at_its_end_fits<B: TableName>()
     ensures { (table : TableId) (scene : SceneValue) (so : SoFar B) (player : PlayerOf B) → StandsInRun table scene so player → player.place ≡ at.End
         → DeskKnows player.play → player.play.actor_set.desk.turns.table ≡ table → EndsRun scene so player }

@@ -19,7 +19,7 @@ use law_rights::ActorSet;
 use sf_base::{Items, NoMemory};
 use sf_picture::Painted;
 use sf_play_report::{
-    Handler, Hold, Lease, ReadLease, Release, Stock, TableName, TurnSeat, Vsync, VsyncReport,
+    Committed, Handler, Hold, Lease, ReadLease, Release, Stock, TableName, TurnSeat, VsyncReport,
 };
 use sf_script_scene::{Pick, Scene, most_layers};
 use std::alloc::Global;
@@ -199,7 +199,7 @@ impl<B: TableName> Player<B> {
         handler.finish();
     }
 
-    /// Tells what the desk and the compositor keep of themselves. It changes nothing.
+    /// States what the desk and the compositor keep of themselves. It changes nothing.
     pub(crate) fn tells(&self)
         ensures { KeepsItself ⟦<ReadLease<B> as Lease>⟧ B.table self.now.play }
     {
@@ -223,10 +223,8 @@ impl<B: TableName> Player<B> {
         let expected = u64::from(number) * self.period;
         let seen = self.actor_set.see();
         let arrived = self.actor_set.take()?;
-        let Vsync {
+        let Committed {
             commits,
-            view,
-            sources,
             releases,
             held,
         } = self
@@ -239,8 +237,6 @@ impl<B: TableName> Player<B> {
             expected,
             seen,
             commits,
-            view,
-            sources,
         })
     }
 }

@@ -220,7 +220,7 @@ module _ {L : Type 0} (on : List (OnLayer L)) where
     each_source tree width height stands ls ds draws.1 (All-tail (λ (layer : Layer). layer_of tree layer.number ≡ Some layer) l ls all),
   )
 
-  -- the sources that a vsync told of the view of the whole tree
+  -- the sources of the view of the whole tree
   pub own_sources : (tree : List Layer) (order : List LayerId) (width height : ℕ) (view : ViewOf) (sources : List ℕ) → Stands tree on → ViewsInOrder tree order width height view
       → sources ≡ map (source_of on) view.drawn → AreSourcesOf on view.drawn sources
   own_sources tree order width height view sources stands views are =

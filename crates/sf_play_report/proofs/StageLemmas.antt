@@ -1,8 +1,8 @@
 -- What is to be composed is what is due, and finds its pictures.
-use Rattle.std.proofs.Common.{◌≡◌, ℕ, ◌+◌, ◌<◌, List, [], ◌∷◌, ◌++◌, length, get_or, map, take, Option, Some, None, refl, ap, sym, ◌∙◌, subst, inl, inr, arith}
-use Rattle.std.specs.Prelude.{slice_get}
+use Rattle.std.proofs.Common.{◌≡◌, ℕ, ◌+◌, ◌<◌, List, [], ◌∷◌, ◌++◌, length, get_or, map, take, Option, Some, None, Result, Ok, Err, refl, ap, sym, ◌∙◌, subst, inl, inr, arith}
+use Rattle.std.specs.Prelude.{IfOk, slice_get}
 use Rattle.std.specs.List.{All, AllZip, flat_map}
-use Rattle.std.specs.Option.{IfSome, IsSome, option_map, unwrap_or}
+use Rattle.std.specs.Option.{IfSome, IsSome, option_map}
 use Rattle.std.proofs.lemmas.Bool.{cases_Bool}
 use Rattle.std.proofs.lemmas.List.{take_more}
 use Rattle.std.proofs.lemmas.List.Elements.{All-append, All-cons, All-head, All-map, All-nil, All-tail}
@@ -31,9 +31,18 @@ use Rattle.law_played.specs.sf_view.declared.content.Content.{Content}
 use Rattle.law_played.specs.sf_view.declared.content.Content.TheVariants as content
 use Rattle.law_played.specs.sf_view.declared.drawn.Drawn.{Drawn}
 use Rattle.law_played.specs.sf_commit.OnLayers.{IsPlaceOf, OnLayer}
-use Rattle.sf_play_report.specs.Stages.{AllShowOn, AreSourcesOf, FindsPictures, IsReadableView, IsSourceOf, IsSourcedBy, ShowsOn}
+use Rattle.sf_play_report.specs.Stages.{AllShowOn, AreSourcesOf, FindsPictures, IsReadableView, IsSourceOf, IsSourcedBy, IsSourcedDue, ShowsOn}
 use Rattle.sf_play_report.specs.declared.sourced.SourcedView.{SourcedView}
 use Rattle.sf_play_report.proofs.SourceLemmas.{AllOn, IsOnIf, cut_said, view_on, written_said}
+
+-- what is so of what came of it, where it succeeded
+pub if_ok : {T E : Type 0} (P Q : T → Type 0) (r : Result T E) → ((x : T) → P x → Q x) → IfOk r P → IfOk r Q
+if_ok P Q (Ok x) f p = f x p
+if_ok P Q (Err e) f p = tt
+
+pub if_both : {T E : Type 0} (P R Q : T → Type 0) (r : Result T E) → ((x : T) → P x → R x → Q x) → IfOk r P → IfOk r R → IfOk r Q
+if_both P R Q (Ok x) f p s = f x p s
+if_both P R Q (Err e) f p s = tt
 
 -- what is known of an output and of one that fits it
 of_image : {A B : Type 0} (P : A → Type 0) (R : A → B → Type 0) (Q : B → Type 0) → ((a : A) (b : B) → P a → R a b → Q b)
@@ -136,42 +145,37 @@ module _ {L : Type 0} (on : List (OnLayer L)) where
   own_on plan tree None all due = tt
   own_on plan tree (Some own) all due = due_on (frame_due plan (written tree plan.mirrors)) own (written_said (IsOnIf on) tree plan.mirrors all) due.1
 
-  pub frame_shows : (plan : Plan) (tree : List Layer) (frame : Option ViewOf) (view : ViewOf) → IsFrameDue plan (written tree plan.mirrors) frame → Views tree plan.width plan.height view
-      → ShowsDue (frame_due plan (written tree plan.mirrors)) (unwrap_or frame view)
-  frame_shows plan tree None view due views = own_due plan tree view due.0 due.1 views
-  frame_shows plan tree (Some own) view due views = due.1
+  -- where no other view is due, that of the whole tree is
+  pub whole_due : (plan : Plan) (tree : List Layer) (sourced : SourcedView) → IsFrameDue plan (written tree plan.mirrors) None → Views tree plan.width plan.height sourced.view
+      → AreSourcesOf on sourced.view.drawn sourced.sources → IsSourcedDue on (frame_due plan (written tree plan.mirrors)) sourced
+  whole_due plan tree sourced due views sources = record { shows = own_due plan tree sourced.view due.0 due.1 views; sources = sources }
 
   pub views_on : (dues : List (Output ImageDue)) (views : List (Output ViewOf)) → All (OfImage ImageOn) dues → AllZip (IsOutput ShowsDue) dues views
       → All (OfImage (λ (view : ViewOf). AllShowOn on view.drawn)) views
   views_on dues views all shown = of_images ImageOn ShowsDue (λ (view : ViewOf). AllShowOn on view.drawn) due_on dues views all shown
 
-  -- a view with its sources, of what is due
-  pub record IsMadeOf (due : ImageDue) (sourced : SourcedView) : Type 0 where
-    pub shows : ShowsDue due sourced.view
-    pub sources : AreSourcesOf on sourced.view.drawn sourced.sources
-
-  pub made_of : (due : ImageDue) (view : ViewOf) (sourced : SourcedView) → ShowsDue due view → IsSourcedBy on view sourced → IsMadeOf due sourced
+  pub made_of : (due : ImageDue) (view : ViewOf) (sourced : SourcedView) → ShowsDue due view → IsSourcedBy on view sourced → IsSourcedDue on due sourced
   made_of due view sourced shows by = record {
     shows = subst (ShowsDue due) (sym by.same) shows;
     sources = subst (λ (v : ViewOf). AreSourcesOf on v.drawn sourced.sources) (sym by.same) by.sources;
   }
 
   pub made_others : (dues : List (Output ImageDue)) (views : List (Output ViewOf)) (made : List (Output SourcedView)) → AllZip (IsOutput ShowsDue) dues views → AllZip (IsOutput (IsSourcedBy on)) views made
-      → AllZip (IsOutput IsMadeOf) dues made
-  made_others dues views made shown sourced = then_outputs ShowsDue (IsSourcedBy on) IsMadeOf made_of dues views made shown sourced
+      → AllZip (IsOutput (IsSourcedDue on)) dues made
+  made_others dues views made shown sourced = then_outputs ShowsDue (IsSourcedBy on) (IsSourcedDue on) made_of dues views made shown sourced
 
   -- the frame first, and all others behind it
-  pub all_made : (plan : Plan) (tree : List Layer) (view : ViewOf) (frame : SourcedView) (others : List (Output ViewOf)) (made all : List (Output SourcedView)) → ShowsDue (frame_due plan (written tree plan.mirrors)) view
-      → IsSourcedBy on view frame → AllZip (IsOutput ShowsDue) (others_due plan tree) others → AllZip (IsOutput (IsSourcedBy on)) others made → all ≡ out.Frame frame ∷ made
-      → AllZip (IsOutput IsMadeOf) (outputs_due plan tree) all
-  all_made plan tree view frame others made all shows by shown sourced is =
-      subst (AllZip (IsOutput IsMadeOf) (outputs_due plan tree)) (sym is) (made_of (frame_due plan (written tree plan.mirrors)) view frame shows by, made_others (others_due plan tree) others made shown sourced)
+  pub all_made : (plan : Plan) (tree : List Layer) (frame : SourcedView) (others : List (Output ViewOf)) (made all : List (Output SourcedView)) → IsSourcedDue on (frame_due plan (written tree plan.mirrors)) frame
+      → AllZip (IsOutput ShowsDue) (others_due plan tree) others → AllZip (IsOutput (IsSourcedBy on)) others made → all ≡ out.Frame frame ∷ made
+      → AllZip (IsOutput (IsSourcedDue on)) (outputs_due plan tree) all
+  all_made plan tree frame others made all by shown sourced is =
+      subst (AllZip (IsOutput (IsSourcedDue on)) (outputs_due plan tree)) (sym is) (by, made_others (others_due plan tree) others made shown sourced)
 
-  pub dues_of : (dues : List (Output ImageDue)) (made : List (Output SourcedView)) → AllZip (IsOutput IsMadeOf) dues made
+  pub dues_of : (dues : List (Output ImageDue)) (made : List (Output SourcedView)) → AllZip (IsOutput (IsSourcedDue on)) dues made
       → AllZip (IsOutput (λ (due : ImageDue) (sourced : SourcedView). ShowsDue due sourced.view)) dues made
-  dues_of dues made is = zip_weaker (IsOutput IsMadeOf) (IsOutput (λ (due : ImageDue) (sourced : SourcedView). ShowsDue due sourced.view)) each dues made is
+  dues_of dues made is = zip_weaker (IsOutput (IsSourcedDue on)) (IsOutput (λ (due : ImageDue) (sourced : SourcedView). ShowsDue due sourced.view)) each dues made is
     where
-      each : (a : Output ImageDue) (b : Output SourcedView) → IsOutput IsMadeOf a b → IsOutput (λ (due : ImageDue) (sourced : SourcedView). ShowsDue due sourced.view) a b
+      each : (a : Output ImageDue) (b : Output SourcedView) → IsOutput (IsSourcedDue on) a b → IsOutput (λ (due : ImageDue) (sourced : SourcedView). ShowsDue due sourced.view) a b
       each (out.Frame a) (out.Frame b) is = is.shows
       each (out.Display n a) (out.Display m b) is = (is.0, is.1.shows)
       each (out.Capture n a) (out.Capture m b) is = (is.0, is.1.shows)
@@ -197,16 +201,16 @@ module _ {L : Type 0} (on : List (OnLayer L)) where
           (sym (get_or_from_slice_get (map expects on) source (expects (get_or on source (some_item on source is.0))) no_picture (there source is.0))) (crop shown source is);
     }
 
-    made_readable : (due : ImageDue) (sourced : SourcedView) → IsMadeOf due sourced → IsReadableView (map expects on) sourced
+    made_readable : (due : ImageDue) (sourced : SourcedView) → IsSourcedDue on due sourced → IsReadableView (map expects on) sourced
     made_readable due sourced made = record {
       all = zip_weaker (λ (one : Drawn) (source : ℕ). IsSourceOf on one.content source) (λ (one : Drawn) (source : ℕ). IsReadable (map expects on) one.content source)
           (λ one source is. readable_one one.content source is) sourced.view.drawn sourced.sources made.sources;
     }
 
     -- what is made can be composed
-    pub all_readable : (dues : List (Output ImageDue)) (made : List (Output SourcedView)) → AllZip (IsOutput IsMadeOf) dues made → All (OfImage (IsReadableView (map expects on))) made
+    pub all_readable : (dues : List (Output ImageDue)) (made : List (Output SourcedView)) → AllZip (IsOutput (IsSourcedDue on)) dues made → All (OfImage (IsReadableView (map expects on))) made
     all_readable dues made is =
-        of_images (λ (due : ImageDue). Unit {0}) IsMadeOf (IsReadableView (map expects on)) (λ due sourced u m. made_readable due sourced m) dues made (all_unit dues) is
+        of_images (λ (due : ImageDue). Unit {0}) (IsSourcedDue on) (IsReadableView (map expects on)) (λ due sourced u m. made_readable due sourced m) dues made (all_unit dues) is
       where
         all_unit : (xs : List (Output ImageDue)) → All (OfImage (λ (due : ImageDue). Unit {0})) xs
         all_unit xs = λ k d below. unit_of (get_or xs k d)
@@ -228,16 +232,16 @@ module _ {L : Type 0} (on : List (OnLayer L)) where
         crop = subst (λ (p : Picture). LiesWithin shown.crop p.width p.height) (pictured shown source is) (crop shown source is);
       }
 
-      made_found : (due : ImageDue) (sourced : SourcedView) → IsMadeOf due sourced → FindsPictures pictures (map expects on) sourced
+      made_found : (due : ImageDue) (sourced : SourcedView) → IsSourcedDue on due sourced → FindsPictures pictures (map expects on) sourced
       made_found due sourced made = record {
         all = zip_weaker (λ (one : Drawn) (source : ℕ). IsSourceOf on one.content source) (λ (one : Drawn) (source : ℕ). HasSource pictures (map expects on) one.content source)
             (λ one source is. source_one one.content source is) sourced.view.drawn sourced.sources made.sources;
       }
 
       -- what is made finds its pictures
-      pub all_found : (dues : List (Output ImageDue)) (made : List (Output SourcedView)) → AllZip (IsOutput IsMadeOf) dues made → All (OfImage (FindsPictures pictures (map expects on))) made
+      pub all_found : (dues : List (Output ImageDue)) (made : List (Output SourcedView)) → AllZip (IsOutput (IsSourcedDue on)) dues made → All (OfImage (FindsPictures pictures (map expects on))) made
       all_found dues made is =
-          of_images (λ (due : ImageDue). Unit {0}) IsMadeOf (FindsPictures pictures (map expects on)) (λ due sourced u m. made_found due sourced m) dues made (all_unit dues) is
+          of_images (λ (due : ImageDue). Unit {0}) (IsSourcedDue on) (FindsPictures pictures (map expects on)) (λ due sourced u m. made_found due sourced m) dues made (all_unit dues) is
         where
           all_unit : (xs : List (Output ImageDue)) → All (OfImage (λ (due : ImageDue). Unit {0})) xs
           all_unit xs = λ k d below. unit_of (get_or xs k d)

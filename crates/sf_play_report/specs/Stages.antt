@@ -1,7 +1,7 @@
--- What is there to be shown: the layers, the buffers on them with their pictures, and the view of the whole tree.
-use Rattle.std.specs.Prelude.{◌≡◌, ℕ, ◌<◌, ◌≤◌, Bool, ◌==◌, List, get_or, length, map}
+-- What is there to be shown: the layers, and the buffers on them with their pictures.
+use Rattle.std.specs.Prelude.{◌≡◌, ℕ, ◌<◌, ◌≤◌, Bool, ◌==◌, List, get_or, length}
 use Rattle.std.specs.List.{All, AllZip, list_any}
-use Rattle.law_played.specs.sf_commit.Handlers.{HandlerOf, source_of}
+use Rattle.law_played.specs.sf_commit.Handlers.{HandlerOf}
 use Rattle.law_played.specs.sf_commit.OnLayers.{OnLayer}
 use Rattle.law_played.specs.sf_commit.Standing.{Stands}
 use Rattle.law_played.specs.sf_commit.declared.vsync.Commit.{Commit}
@@ -14,7 +14,7 @@ use Rattle.law_played.specs.sf_output_plan.Due.{ImageDue, IsPlan, ShowsDue, outp
 use Rattle.law_played.specs.sf_output_plan.declared.plan.Plan.{Plan}
 use Rattle.law_played.specs.sf_tree.Trees.{TreeOf}
 use Rattle.law_played.specs.sf_txn.Buffers.{Shows}
-use Rattle.law_played.specs.sf_view.Views.{ViewOf, Views}
+use Rattle.law_played.specs.sf_view.Views.{ViewOf}
 use Rattle.law_played.specs.sf_view.declared.content.Content.{Content}
 use Rattle.law_played.specs.sf_view.declared.content.Content.TheVariants as content
 use Rattle.law_played.specs.sf_view.declared.drawn.Drawn.{Drawn}
@@ -49,16 +49,18 @@ module _ {L : Type 0} where
     pub same : sourced.view ≡ view
     pub sources : AreSourcesOf on view.drawn sourced.sources
 
+  -- a view of an output due, with the places of its buffers
+  pub record IsSourcedDue (on : List (OnLayer L)) (due : ImageDue) (sourced : SourcedView) : Type 0 where
+    pub shows : ShowsDue due sourced.view
+    pub sources : AreSourcesOf on sourced.view.drawn sourced.sources
+
 module _ {L : Type 0} (expects : OnLayer L → Picture) where
-  -- What there is to show by a plan after a vsync: each layer shows the one buffer that stands for it, whose crop lies in its picture; and the
-  -- vsync told the view of the whole tree on the scene's own display, with the places of its buffers.
-  pub record IsStage (plan : Plan) (handler : HandlerOf L) (shown : ViewOf) (places : List ℕ) : Type 0 where
+  -- What there is to show by a plan after a vsync: each layer shows the one buffer that stands for it, whose crop lies in its picture.
+  pub record IsStage (plan : Plan) (handler : HandlerOf L) : Type 0 where
     pub planned : IsPlan plan
     pub few : length handler.tree.layers ≤ 1024
     pub stands : Stands handler.tree.layers handler.on
     pub crops : All (λ (one : OnLayer L). Shows one.shown (expects one)) handler.on
-    pub view : Views handler.tree.layers plan.width plan.height shown
-    pub sources : places ≡ map (source_of handler.on) shown.drawn
 
   -- each buffer on a layer has the picture that its number stands for
   abbrev pub AreExpected : (ℕ → Picture) → HandlerOf L → Type 0
@@ -71,7 +73,7 @@ IsReadableView contents sourced = AreReadable contents sourced.view.drawn source
 abbrev pub FindsPictures : (ℕ → Picture) → List Picture → SourcedView → Type 0
 FindsPictures pictures contents sourced = HasSources pictures sourced.view contents sourced.sources
 
--- What is to be composed, place by place what is due.
+-- What is to be composed, place by place the outputs due.
 pub record AreSourced (plan : Plan) (tree : TreeOf) (contents : List Picture) (views : List (Output SourcedView)) : Type 0 where
   pub due : AllZip (IsOutput (λ (due : ImageDue) (sourced : SourcedView). ShowsDue due sourced.view)) (outputs_due plan tree.layers) views
   pub readable : All (OfImage (IsReadableView contents)) views

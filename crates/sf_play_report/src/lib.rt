@@ -1,5 +1,5 @@
-//! What is told of a run: the report of a vsync, what it shows as views, and the records of a reply,
-//! of a vsync and its commits, of what arrived, of a queue's calls, and of what is held.
+//! What is reported of a run: the report of a vsync, what it shows as views, and the records of a
+//! reply, of a vsync and its commits, of what arrived, of a queue's calls, and of what is held.
 #![tactic(auto)]
 
 mod closing;
@@ -13,8 +13,8 @@ mod sourcing;
 pub use closing::{arrivals_record, held_record, history_record};
 pub use commit::{commit_record, vsync_record};
 pub use law_played::{
-    Commit, Handler, Hit, Hold, Lease, Plan, QueueObject, ReadLease, Record, Release, Reply,
-    RunFault, SceneHeader, Stepped, Stock, StuckEntry, TableName, TurnSeat, Vsync, write_image,
+    Commit, Committed, Handler, Hit, Hold, Lease, Plan, QueueObject, ReadLease, Record, Release,
+    Reply, RunFault, SceneHeader, Stepped, Stock, StuckEntry, TableName, TurnSeat, write_image,
     write_record,
 };
 pub use plan::plan_of;

@@ -1,9 +1,9 @@
-//! What a vsync did, as the player and the compositor of a live run hand it to whoever writes its
+//! What a vsync did, as the player and the compositor of a live run hand it to the writer of its
 //! records.
 ghost use Rattle.std.specs.Prelude.{◌≡◌};
 ghost use Rattle.sf_play_report.specs.Reports.{has_commits};
 
-use law_played::{Commit, View};
+use law_played::Commit;
 use sf_base::{Items, Seen};
 
 /// What a vsync did.
@@ -17,10 +17,6 @@ pub struct VsyncReport {
     pub seen: Seen,
     /// In the order in which they were made.
     pub commits: Items<Commit>,
-    /// What the display shows now.
-    pub view: View,
-    /// For each drawn layer of the view the place of its buffer in the contents.
-    pub sources: Items<u32>,
 }
 
 impl VsyncReport {

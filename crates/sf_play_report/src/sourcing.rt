@@ -1,16 +1,20 @@
-//! From the tree behind a vsync to what is due, as views that are ready to be composed: each with
-//! the places of its pixels.
+//! From the tree behind a vsync to the outputs due, as views that are ready to be composed: each
+//! with the places of its pixels.
 ghost use Rattle.std.specs.List.{All, AllZip};
-ghost use Rattle.std.specs.Option.{unwrap_or};
-ghost use Rattle.std.specs.Prelude.{◌≡◌, ℕ, IfOk, IfSome, map};
+ghost use Rattle.std.specs.Prelude.{ℕ, IfOk, IfSome, map};
 ghost use Rattle.law_played.specs.sf_output.Outputs.{IsOutput, OfImage};
+ghost use Rattle.law_played.specs.sf_commit.Standing.{Stands};
+ghost use Rattle.law_played.specs.sf_output_plan.Due.{IsFrameDue, frame_due};
+ghost use Rattle.law_played.specs.sf_output_shown.Copies.{written};
 ghost use Rattle.law_played.specs.sf_picture.declared.picture.Picture.{Picture};
-ghost use Rattle.sf_play_report.specs.Stages.{AllShowOn, AreExpected, AreSourced, AreSourcesOf, FindsPictures, IsSourceOf, IsSourcedBy, IsStage, ShowsOn};
+ghost use Rattle.law_played.specs.sf_view.Views.{IsDisplay, Views};
+ghost use Rattle.sf_play_report.specs.Stages.{AllShowOn, AreExpected, AreSourced, AreSourcesOf, FindsPictures, IsSourceOf, IsSourcedBy, IsSourcedDue, IsStage, ShowsOn};
 ghost use Rattle.law_played.specs.sf_view.declared.drawn.Drawn.{Drawn as DrawnOf};
 
 use crate::sourced::SourcedView;
 use law_played::{Content, Drawn, Handler, Lease, Output, Plan, View, ViewsDue, views_due};
 use sf_base::{Items, NoMemory};
+use sf_view::view_of;
 use std::alloc::Global;
 
 /// The place of the buffer that a drawn layer shows, 0 for a colour.
@@ -59,24 +63,43 @@ where
     Ok(SourcedView { view, sources })
 }
 
-/// The view of the scene's own display with the places of its buffers: `view` and `sources`, unless
-/// there is another one.
-fn own_sourced<L: Lease + Drop>(
+/// The view of the whole tree on a display of this size, with the places of its buffers.
+fn whole_sourced<L: Lease + Drop>(
     alloc: Global,
     handler: &Handler<L>,
-    own: Option<View>,
-    view: View,
-    sources: Items<u32>,
+    width: u32,
+    height: u32,
 ) -> Result<SourcedView, NoMemory>
 where
     L::Reading: Drop,
-    requires shows { IfSome own (λ other. AllShowOn handler.now.on other.drawn) }
-    requires told { AreSourcesOf handler.now.on view.drawn sources }
-    ensures { IfOk result (IsSourcedBy handler.now.on (unwrap_or own view)) }
+    requires display { IsDisplay width height }
+    requires stands { Stands handler.now.tree.layers handler.now.on }
+    ensures views { IfOk result (λ sourced. Views handler.now.tree.layers width height sourced.view) }
+    ensures sources { IfOk result (λ sourced. AreSourcesOf handler.now.on sourced.view.drawn sourced.sources) }
+{
+    let view = view_of(alloc, handler.tree(), width, height)?;
+    let sources = handler.sources(view.drawn.as_slice())?;
+    Ok(SourcedView { view, sources })
+}
+
+/// The view of the scene's own display with the places of its buffers: that of the whole tree where
+/// there is no other one.
+fn own_sourced<L: Lease + Drop>(
+    alloc: Global,
+    plan: &Plan,
+    handler: &Handler<L>,
+    own: Option<View>,
+) -> Result<SourcedView, NoMemory>
+where
+    L::Reading: Drop,
+    requires stage { IsStage (λ one. L.picture one.lease) plan.now handler.now }
+    requires shows { IfSome own (λ view. AllShowOn handler.now.on view.drawn) }
+    requires due { IsFrameDue plan.now (written handler.now.tree.layers plan.now.mirrors) own }
+    ensures { IfOk result (IsSourcedDue handler.now.on (frame_due plan.now (written handler.now.tree.layers plan.now.mirrors))) }
 {
     match own {
-        Some(other) => sourced(alloc, handler, other),
-        None => Ok(SourcedView { view, sources }),
+        Some(view) => sourced(alloc, handler, view),
+        None => whole_sourced(alloc, handler, plan.width, plan.height),
     }
 }
 
@@ -118,18 +141,15 @@ where
 }
 
 /// What a vsync shows, as the plan asks for it, ready to be composed: after its commits, and before
-/// another vsync. `view` is that of the whole tree, and `sources` has the places of its buffers, both
-/// as the vsync told them. It may be asked while the pixels are lent.
+/// another vsync. It may be asked while the pixels are lent.
 pub fn sourced_views<L: Lease + Drop>(
     alloc: Global,
     plan: &Plan,
     handler: &Handler<L>,
-    view: View,
-    sources: Items<u32>,
 ) -> Result<Vec<Output<SourcedView>>, NoMemory>
 where
     L::Reading: Drop,
-    requires { IsStage (λ one. L.picture one.lease) plan.now handler.now view sources }
+    requires { IsStage (λ one. L.picture one.lease) plan.now handler.now }
     ensures views { IfOk result (λ views. AreSourced plan.now handler.now.tree (map (λ one. L.picture one.lease) handler.now.on) views.items) }
     ensures found { (pictures : ℕ → Picture) → AreExpected (λ one. L.picture one.lease) pictures handler.now
         → IfOk result (λ views. All (OfImage (FindsPictures pictures (map (λ one. L.picture one.lease) handler.now.on))) views.items) }
@@ -137,7 +157,7 @@ where
     let tree = handler.tree();
     tree.layers();
     let ViewsDue { frame, others } = views_due(alloc, plan, tree)?;
-    let frame = own_sourced(alloc, handler, frame, view, sources)?;
+    let frame = own_sourced(alloc, plan, handler, frame)?;
     let mut views = Vec::new(alloc);
     views.push(Output::Frame(frame))?;
     let mut others = sourced_outputs(alloc, handler, others)?;

@@ -46,7 +46,8 @@ use Rattle.sf_play.specs.Standing.{StandsAlong}
 use Rattle.sf_play.specs.declared.action.Action.{Action}
 use Rattle.sf_play.specs.declared.action.Action.TheVariants as action
 use Rattle.sf_play_write.specs.Runs.{CutRun}
-use Rattle.sf_play_write.specs.inner.Rows.{IsWriting, MayShowAction, GoesOnWriting, is_end, newest_of, newest_shown, action_shown}
+use Rattle.sf_play.specs.Actions.{is_end}
+use Rattle.sf_play_write.specs.inner.Rows.{IsWriting, MayShowAction, GoesOnWriting, newest_of, newest_shown, action_shown}
 use Rattle.sf_play_write.specs.Vsyncs.{records_if, told_with}
 use Rattle.sf_play_write.specs.Writing.{Writes, WritesPart}
 use Rattle.sf_play_write.proofs.WritingLemmas.{part_front, part_more, writes_more}

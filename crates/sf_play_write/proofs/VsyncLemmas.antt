@@ -40,9 +40,8 @@ use Rattle.sf_output_screen.specs.sf_view.Image.{image_in}
 use Rattle.sf_output_screen.specs.sf_view.Stacks.{view_image}
 use Rattle.sf_output_screen.specs.sf_view.Views.{ViewOf}
 use Rattle.sf_play_write.proofs.WritingLemmas.{part_front, part_more, writes_more}
-use Rattle.sf_play_write.specs.Vsyncs.{AreComposed, AreViewsDue, IsComposed, IsSame, IsViewDue, image_record, pixels_in, pixels_of, records_by, records_if, shown_record, told_by, vsync_shown}
+use Rattle.sf_play_write.specs.Vsyncs.{AreComposed, AreViewsDue, IsComposed, IsViewDue, image_record, pixels_in, pixels_of, records_by, records_if, shown_record, told_by, vsync_shown}
 use Rattle.sf_play_write.specs.Writing.{Writes, WritesPart}
-use Rattle.sf_play_write.specs.declared.vsync.VsyncFacts.{VsyncFacts}
 
 pub with_more : (A B : Type 0) (r : Result (Unit {0}) RunFault) → OnOk r A → B → OnOk r (A × B)
 with_more A B (Ok u) a b = (a, b)
@@ -106,8 +105,8 @@ pub all_written : (a b c d : Option (List ℕ)) (head : Record) (middle tail all
 all_written a b c d head middle tail all is first second third = subst (Writes a d) is (writes_more a c d (head ∷ middle) tail (writes_more a b c (head ∷ []) middle first second) third)
 
 -- the first record of one that commits something
-abbrev pub head_by : List ℕ → VsyncFacts → Record
-head_by timelines facts = rec.Vsyn (record { number = facts.number; expected = facts.expected; timelines = map (value_shown facts.seen) timelines })
+abbrev pub head_by : List ℕ → VsyncReport → Record
+head_by timelines report = rec.Vsyn (record { number = report.number; expected = report.expected; timelines = map (value_shown report.seen) timelines })
 
 -- the records of what is shown, one after another
 each_record : (number : ℕ) (images : List (Output ScreenOf)) → map (shown_record number) images ≡ map (output_record number) (pixels_in images)
@@ -115,11 +114,11 @@ each_record number [] = refl
 each_record number (image ∷ images) = ap (λ (rs : List Record). shown_record number image ∷ rs) (each_record number images)
 
 -- all records of one that commits something
-pub all_records : (timelines : List ℕ) (facts : VsyncFacts) (images : List (Output ScreenOf)) → has_commits facts.commits ≡ true
-    → head_by timelines facts ∷ (map rec.Comm (map commit_shown facts.commits) ++ map (shown_record facts.number) images) ≡ records_by timelines facts (pixels_in images)
-all_records timelines facts images some =
-    ap (λ (rs : List Record). head_by timelines facts ∷ (map rec.Comm (map commit_shown facts.commits) ++ rs)) (each_record facts.number images)
-    ∙ its_records facts.commits (told_by timelines facts (pixels_in images)) some
+pub all_records : (timelines : List ℕ) (report : VsyncReport) (images : List (Output ScreenOf)) → has_commits report.commits ≡ true
+    → head_by timelines report ∷ (map rec.Comm (map commit_shown report.commits) ++ map (shown_record report.number) images) ≡ records_by timelines report (pixels_in images)
+all_records timelines report images some =
+    ap (λ (rs : List Record). head_by timelines report ∷ (map rec.Comm (map commit_shown report.commits) ++ rs)) (each_record report.number images)
+    ∙ its_records report.commits (told_by timelines report (pixels_in images)) some
 
 pub zip_push : {A B : Type 0} (R : A → B → Type 0) (xs : List A) (ys : List B) (x : A) (y : B) → AllZip R xs ys → R x y → AllZip R (xs ++ x ∷ []) (ys ++ y ∷ [])
 zip_push R [] [] x y zip r = (r, tt)
@@ -186,16 +185,16 @@ shown_are pictures plan layers true views is = sym (outputs_are pictures (output
 shown_are pictures plan layers false views is = sym (outputs_are pictures [] views is)
 
 -- the records by images that are composed of its views are those of what is due
-pub records_are : (pictures : ℕ → Picture) (plan : Plan) (timelines : List ℕ) (report : VsyncReport) (layers : List Layer) (facts : VsyncFacts) (views : List (Output SourcedView))
-    (images : List (Output ScreenOf)) → IsSame report facts → AreViewsDue plan layers report.commits views → AreComposed pictures views images
-    → records_by timelines facts (pixels_in images) ≡ vsync_shown pictures plan timelines report layers
-records_are pictures plan timelines report layers facts views images same due composed =
+pub records_are : (pictures : ℕ → Picture) (plan : Plan) (timelines : List ℕ) (report : VsyncReport) (layers : List Layer) (views : List (Output SourcedView))
+    (images : List (Output ScreenOf)) → AreViewsDue plan layers report.commits views → AreComposed pictures views images
+    → records_by timelines report (pixels_in images) ≡ vsync_shown pictures plan timelines report layers
+records_are pictures plan timelines report layers views images due composed =
     let shown = composed_are pictures views images composed ∙ shown_are pictures plan layers (shows_frame report.commits) views due in
-    (λ i. records_if (same.commits i) (record {
-      number = same.number i;
-      expected = same.expected i;
-      timelines = map (value_shown (same.seen i)) timelines;
-      commits = map commit_shown (same.commits i);
+    (λ i. records_if report.commits (record {
+      number = report.number;
+      expected = report.expected;
+      timelines = map (value_shown report.seen) timelines;
+      commits = map commit_shown report.commits;
       shown = shown i;
     }))
 
@@ -210,23 +209,21 @@ tail_part (Ok u) a b c d head middle tail all is first second third = tt
 tail_part (Err e) a b c d head middle tail all is first second third = tail_cut a b c d head middle tail all is first second third
 
 -- a vsync of which the images are composed was written, for its report
-pub vsync_written : (r : Result (Unit {0}) RunFault) (a b : Option (List ℕ)) (pictures : ℕ → Picture) (plan : Plan) (timelines : List ℕ) (report : VsyncReport) (layers : List Layer) (facts : VsyncFacts)
-    (views : List (Output SourcedView)) (images : List (Output ScreenOf)) (screens shown : List OutputScreen) → IsSame report facts → AreViewsDue plan layers report.commits views → AreComposed pictures views images
-    → OnOk r (Writes a b (records_by timelines facts (pixels_in images)))
+pub vsync_written : (r : Result (Unit {0}) RunFault) (a b : Option (List ℕ)) (pictures : ℕ → Picture) (plan : Plan) (timelines : List ℕ) (report : VsyncReport) (layers : List Layer) (views : List (Output SourcedView)) (images : List (Output ScreenOf)) (screens shown : List OutputScreen) → AreViewsDue plan layers report.commits views → AreComposed pictures views images
+    → OnOk r (Writes a b (records_by timelines report (pixels_in images)))
     → (All (OfImage (IsShown pictures)) images → AreShown pictures screens → OnOk r (AreShown pictures shown)) → AreShown pictures screens
     → OnOk r (Writes a b (vsync_shown pictures plan timelines report layers) × AreShown pictures shown)
-vsync_written (Ok u) a b pictures plan timelines report layers facts views images screens shown same due composed written still was = (
-  subst (Writes a b) (records_are pictures plan timelines report layers facts views images same due composed) written,
+vsync_written (Ok u) a b pictures plan timelines report layers views images screens shown due composed written still was = (
+  subst (Writes a b) (records_are pictures plan timelines report layers views images due composed) written,
   still (composed_shown pictures views images composed) was,
 )
-vsync_written (Err e) a b pictures plan timelines report layers facts views images screens shown same due composed written still was = tt
+vsync_written (Err e) a b pictures plan timelines report layers views images screens shown due composed written still was = tt
 
-pub vsync_cut : (r : Result (Unit {0}) RunFault) (a b : Option (List ℕ)) (pictures : ℕ → Picture) (plan : Plan) (timelines : List ℕ) (report : VsyncReport) (layers : List Layer) (facts : VsyncFacts)
-    (views : List (Output SourcedView)) (images : List (Output ScreenOf)) → IsSame report facts → AreViewsDue plan layers report.commits views → AreComposed pictures views images
-    → OnErr r (WritesPart a b (records_by timelines facts (pixels_in images))) → OnErr r (WritesPart a b (vsync_shown pictures plan timelines report layers))
-vsync_cut (Ok u) a b pictures plan timelines report layers facts views images same due composed part = tt
-vsync_cut (Err e) a b pictures plan timelines report layers facts views images same due composed part =
-    subst (WritesPart a b) (records_are pictures plan timelines report layers facts views images same due composed) part
+pub vsync_cut : (r : Result (Unit {0}) RunFault) (a b : Option (List ℕ)) (pictures : ℕ → Picture) (plan : Plan) (timelines : List ℕ) (report : VsyncReport) (layers : List Layer) (views : List (Output SourcedView)) (images : List (Output ScreenOf)) → AreViewsDue plan layers report.commits views → AreComposed pictures views images
+    → OnErr r (WritesPart a b (records_by timelines report (pixels_in images))) → OnErr r (WritesPart a b (vsync_shown pictures plan timelines report layers))
+vsync_cut (Ok u) a b pictures plan timelines report layers views images due composed part = tt
+vsync_cut (Err e) a b pictures plan timelines report layers views images due composed part =
+    subst (WritesPart a b) (records_are pictures plan timelines report layers views images due composed) part
 
 pub if_ok : {T E : Type 0} (P Q : T → Type 0) (r : Result T E) → ((x : T) → P x → Q x) → IfOk r P → IfOk r Q
 if_ok P Q (Ok x) f p = f x p

@@ -20,7 +20,6 @@ use Rattle.sf_play.specs.law_played.Seeing.{value_shown}
 use Rattle.sf_output_screen.specs.ScreenLists.{AreShown}
 use Rattle.sf_output_screen.specs.Screens.{IsShown, ScreenOf, image_bytes}
 use Rattle.sf_output_screen.specs.declared.screens.OutputScreen.{OutputScreen}
-use Rattle.sf_play_write.specs.declared.vsync.VsyncFacts.{VsyncFacts}
 
 -- what the records of a vsync show, which leaves these layers
 abbrev pub told_with : (ℕ → Picture) → Plan → List ℕ → VsyncReport → List Layer → VsyncRecords
@@ -52,7 +51,7 @@ pixels_of pictures sourced = image_bytes pictures sourced.view
 abbrev pub FindPictures : (ℕ → Picture) → List Picture → List (Output SourcedView) → Type 0
 FindPictures pictures contents views = All (OfImage (FindsPictures pictures contents)) views
 
--- the views are of what is due, place by place, where a transaction was committed and not rejected
+-- the views are of the outputs due, place by place, where a transaction was committed and not rejected
 abbrev pub IsViewDue : ImageDue → SourcedView → Type 0
 IsViewDue due sourced = ShowsDue due sourced.view
 
@@ -95,21 +94,14 @@ abbrev pub pixels_in : List (Output ScreenOf) → List (Output (List ℕ))
 pixels_in images = map (map_output (λ (screen : ScreenOf). screen.frame)) images
 
 -- what the records of a vsync show, of which these are the pixels
-abbrev pub told_by : List ℕ → VsyncFacts → List (Output (List ℕ)) → VsyncRecords
-told_by timelines facts shown = record {
-  number = facts.number;
-  expected = facts.expected;
-  timelines = map (value_shown facts.seen) timelines;
-  commits = map commit_shown facts.commits;
+abbrev pub told_by : List ℕ → VsyncReport → List (Output (List ℕ)) → VsyncRecords
+told_by timelines report shown = record {
+  number = report.number;
+  expected = report.expected;
+  timelines = map (value_shown report.seen) timelines;
+  commits = map commit_shown report.commits;
   shown = shown;
 }
 
-abbrev pub records_by : List ℕ → VsyncFacts → List (Output (List ℕ)) → List Record
-records_by timelines facts shown = records_if facts.commits (told_by timelines facts shown)
-
--- this is what the report tells of a vsync
-pub record IsSame (report : VsyncReport) (facts : VsyncFacts) : Type 0 where
-  pub number : facts.number ≡ report.number
-  pub expected : facts.expected ≡ report.expected
-  pub seen : facts.seen ≡ report.seen
-  pub commits : facts.commits ≡ report.commits
+abbrev pub records_by : List ℕ → VsyncReport → List (Output (List ℕ)) → List Record
+records_by timelines report shown = records_if report.commits (told_by timelines report shown)

@@ -16,5 +16,5 @@ pub use sf_play::{
     Action, ActorSet, Plan, Player, RunFault, SourcedView, VsyncReport, is_time, permits_for,
     plan_of, reply_record,
 };
-pub use vsync::{VsyncFacts, show_vsync, vsync_views, write_vsync};
+pub use vsync::{show_vsync, vsync_views, write_vsync};
 pub use writing::write_made;

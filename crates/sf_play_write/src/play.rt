@@ -12,7 +12,7 @@ ghost use Rattle.sf_play.specs.law_played.Played.{opening};
 ghost use Rattle.sf_play.specs.sf_script_scene.Scene.{SceneValue};
 ghost use Rattle.sf_output_screen.specs.ScreenLists.{AreShown};
 ghost use Rattle.sf_play_write.specs.Runs.{CutRun, WroteRun};
-ghost use Rattle.sf_play_write.specs.inner.Rows.{HasWritten, IsReady, IsWriting, MayShowAction, GoesOnWriting, is_end, newest_shown, action_shown};
+ghost use Rattle.sf_play_write.specs.inner.Rows.{HasWritten, IsReady, IsWriting, MayShowAction, GoesOnWriting, newest_shown, action_shown};
 ghost use Rattle.sf_play_write.specs.Writing.{Writes, WritesPart};
 ghost use Rattle.sf_play.specs.sf_turns.Counts.{range};
 
@@ -61,16 +61,6 @@ fn write_newest<K: Sink>(alloc: Global, sink: &mut K, replies: &[Reply]) -> Resu
     match replies {
         [.., newest] => write_made(alloc, sink, reply_record(alloc, newest)),
         [] => Ok(()),
-    }
-}
-
-/// Whether nothing will be done any more.
-fn is_end(action: &Action) -> bool
-    ensures { result ≡ is_end action.now }
-{
-    match action {
-        Action::End => true,
-        _ => false,
     }
 }
 
@@ -136,7 +126,7 @@ fn show_action<R: Threads + Sync, K: Sink, B: TableName>(
         Ok(action) => action,
         Err(_) => return Err(RunFault::NoMemory),
     };
-    let goes_on = !is_end(&action);
+    let goes_on = !action.is_end();
     match write_action(engine, sink, timelines, plan, screens, player, action) {
         Ok(()) => Ok(goes_on),
         Err(fault) => Err(fault),
@@ -196,8 +186,9 @@ fn write_play<R: Threads + Sync, K: Sink, B: TableName>(
 }
 
 /// Plays a scene over buffers of the table that B names, and writes the records of its play. The
-/// workers of the engine compose each frame; the records are those of the scene, whatever their number
-/// is. It takes the seat and the whole stock of the turns, with a permit for each dequeue. After a fault of the sink, or want of memory, the sink has a prefix of these records.
+/// workers of the engine compose each frame; the records are those of the scene, whatever their
+/// number is. It takes the seat and the whole stock of the turns, with a permit for each dequeue.
+/// After a fault of the sink, or running out of memory, the sink has a prefix of these records.
 pub fn show_play<R: Threads + Sync, K: Sink, B: TableName>(
     engine: &Engine<R>,
     sink: &mut K,

@@ -14,15 +14,15 @@ ghost use Rattle.sf_play.specs.sf_play_report.Stages.{AreExpected, IsReadableVie
 ghost use Rattle.sf_play.specs.law_played.Commits.{commit_shown};
 ghost use Rattle.sf_output_screen.specs.ScreenLists.{AreShown};
 ghost use Rattle.sf_output_screen.specs.Screens.{IsShown, is_image};
-ghost use Rattle.sf_play_write.specs.Vsyncs.{AreViewsDue, FindPictures, HasView, IsSame, image_record, pixels_in, records_by, shown_record, vsync_shown};
+ghost use Rattle.sf_play_write.specs.Vsyncs.{AreViewsDue, FindPictures, HasView, image_record, pixels_in, records_by, shown_record, vsync_shown};
 ghost use Rattle.sf_play_write.specs.Writing.{CutSome, Writes, WritesPart, WritesSome};
 
 use crate::composing::compose_views;
 use crate::writing::write_made;
-use sf_base::{Items, NoMemory, Seen};
+use sf_base::NoMemory;
 use sf_io::Sink;
 use sf_output::Output;
-use sf_output_screen::{Engine, Screen, Screens, View};
+use sf_output_screen::{Engine, Screen, Screens};
 use sf_play::{
     Commit, Handler, Hit, Lease, Plan, Record, RunFault, SourcedView, VsyncReport, commit_record,
     sourced_views, vsync_record, write_image,
@@ -177,76 +177,26 @@ fn write_outputs<K: Sink>(
     Ok(())
 }
 
-/// What a vsync did, beside what it shows.
-#[derive(Drop)]
-pub struct VsyncFacts {
-    /// From 1.
-    pub number: u32,
-    /// When the frame is expected, in nanoseconds from the start of the run.
-    pub expected: u64,
-    /// What it saw of the timelines.
-    pub seen: Seen,
-    /// In the order in which they were made.
-    pub commits: Items<Commit>,
-}
-
-/// The views of what a vsync with these commits shows: of what is due where a transaction was committed
-/// and not rejected, and else of nothing.
-fn views_of<L: Lease + Drop>(
-    alloc: Global,
-    plan: &Plan,
-    handler: &Handler<L>,
-    commits: &[Commit],
-    view: View,
-    sources: Items<u32>,
-) -> Result<Vec<Output<SourcedView>>, NoMemory>
-where
-    L::Reading: Drop,
-    requires { IsStage (λ one. L.picture one.lease) plan.now handler.now view sources }
-    ensures due { IfOk result (λ views. AreViewsDue plan.now handler.now.tree.layers commits.now views.items) }
-    ensures readable { IfOk result (λ views. All (OfImage (IsReadableView (map (λ one. L.picture one.lease) handler.now.on))) views.items) }
-    ensures found { (pictures : ℕ → Picture) → AreExpected (λ one. L.picture one.lease) pictures handler.now
-        → IfOk result (λ views. FindPictures pictures (map (λ one. L.picture one.lease) handler.now.on) views.items) }
-{
-    if !shows_frame(commits) {
-        return Ok(Vec::new(alloc));
-    }
-    sourced_views(alloc, plan, handler, view, sources)
-}
-
-/// What a vsync did, and the views of what it shows, in order: nothing where no transaction was
-/// committed. It may be asked while the pixels are lent.
+/// The views of what the last vsync shows, in order: of the outputs due where it committed a
+/// transaction that was not rejected, and else none. It may be asked while the pixels are lent.
 pub fn vsync_views<L: Lease + Drop>(
     alloc: Global,
     plan: &Plan,
     handler: &Handler<L>,
-    report: VsyncReport,
-) -> Result<(VsyncFacts, Vec<Output<SourcedView>>), NoMemory>
+    report: &VsyncReport,
+) -> Result<Vec<Output<SourcedView>>, NoMemory>
 where
     L::Reading: Drop,
-    requires { IsStage (λ one. L.picture one.lease) plan.now handler.now report.view report.sources }
-    ensures same { IfOk result (λ told. IsSame report told.0) }
-    ensures due { IfOk result (λ told. AreViewsDue plan.now handler.now.tree.layers report.commits told.1.items) }
-    ensures readable { IfOk result (λ told. All (OfImage (IsReadableView (map (λ one. L.picture one.lease) handler.now.on))) told.1.items) }
+    requires { IsStage (λ one. L.picture one.lease) plan.now handler.now }
+    ensures due { IfOk result (λ views. AreViewsDue plan.now handler.now.tree.layers report.now.commits views.items) }
+    ensures readable { IfOk result (λ views. All (OfImage (IsReadableView (map (λ one. L.picture one.lease) handler.now.on))) views.items) }
     ensures found { (pictures : ℕ → Picture) → AreExpected (λ one. L.picture one.lease) pictures handler.now
-        → IfOk result (λ told. FindPictures pictures (map (λ one. L.picture one.lease) handler.now.on) told.1.items) }
+        → IfOk result (λ views. FindPictures pictures (map (λ one. L.picture one.lease) handler.now.on) views.items) }
 {
-    let VsyncReport {
-        number,
-        expected,
-        seen,
-        commits,
-        view,
-        sources,
-    } = report;
-    let views = views_of(alloc, plan, handler, commits.as_slice(), view, sources)?;
-    let facts = VsyncFacts {
-        number,
-        expected,
-        seen,
-        commits,
-    };
-    Ok((facts, views))
+    if !shows_frame(report.commits.as_slice()) {
+        return Ok(Vec::new(alloc));
+    }
+    sourced_views(alloc, plan, handler)
 }
 
 /// Writes the records of a vsync, of which the images are composed, and puts their screens among the
@@ -256,24 +206,24 @@ pub fn write_vsync<K: Sink>(
     sink: &mut K,
     timelines: &[u32],
     screens: &mut Screens,
-    facts: VsyncFacts,
+    report: VsyncReport,
     images: Vec<Output<Screen>>,
 ) -> Result<(), RunFault>
     requires timelines { All (λ timeline. (1 ≤ timeline) × (timeline ≤ 64)) timelines.now }
     requires shows { All (OfImage HasView) images.items }
-    ensures ok { OnOk result (Writes (K.taken sink.old) (K.taken sink.new) (records_by timelines.now facts (pixels_in images.items))) }
-    ensures err { OnErr result (WritesPart (K.taken sink.old) (K.taken sink.new) (records_by timelines.now facts (pixels_in images.items))) }
+    ensures ok { OnOk result (Writes (K.taken sink.old) (K.taken sink.new) (records_by timelines.now report (pixels_in images.items))) }
+    ensures err { OnErr result (WritesPart (K.taken sink.old) (K.taken sink.new) (records_by timelines.now report (pixels_in images.items))) }
     ensures shown { (pictures : ℕ → Picture) → All (OfImage (IsShown pictures)) images.items → AreShown pictures screens.old
         → OnOk result (AreShown pictures screens.new) }
     ensures later { K.faults sink.old ≤ K.faults sink.new }
     ensures failed { IsErrOf result RunFault.WriteFault → Rose (K.faults sink.old) (K.faults sink.new) }
 {
-    let VsyncFacts {
+    let VsyncReport {
         number,
         expected,
         seen,
         commits,
-    } = facts;
+    } = report;
     if !has_commits(commits.as_slice()) {
         return Ok(());
     }
@@ -305,7 +255,7 @@ where
     L::Reading: Drop,
     requires timelines { All (λ timeline. (1 ≤ timeline) × (timeline ≤ 64)) timelines.now }
     requires unlent { handler.now.lent ≡ None }
-    requires stage { IsStage (λ one. L.picture one.lease) plan.now handler.now report.view report.sources }
+    requires stage { IsStage (λ one. L.picture one.lease) plan.now handler.now }
     ensures ok { (pictures : ℕ → Picture) → AreExpected (λ one. L.picture one.lease) pictures handler.now → AreShown pictures screens.old
         → OnOk result (Writes (K.taken sink.old) (K.taken sink.new) (vsync_shown pictures plan.now timelines.now report handler.now.tree.layers)
         × AreShown pictures screens.new) }
@@ -318,12 +268,12 @@ where
     ensures later { K.faults sink.old ≤ K.faults sink.new }
     ensures failed { IsErrOf result RunFault.WriteFault → Rose (K.faults sink.old) (K.faults sink.new) }
 {
-    let (facts, views) = match vsync_views(engine.alloc, plan, handler, report) {
-        Ok(told) => told,
+    let views = match vsync_views(engine.alloc, plan, handler, &report) {
+        Ok(views) => views,
         Err(_) => return Err(RunFault::NoMemory),
     };
     match compose_views(engine, screens, handler.contents(), views) {
-        Ok(images) => write_vsync(engine.alloc, sink, timelines, screens, facts, images),
+        Ok(images) => write_vsync(engine.alloc, sink, timelines, screens, report, images),
         Err(_) => Err(RunFault::NoMemory),
     }
 }

@@ -1,4 +1,4 @@
--- The frames that the compositor releases, as calls on a desk and as they are told.
+-- The frames that the compositor releases, as calls on a desk and as they are reported.
 use Rattle.std.specs.Prelude.{◌≡◌, ℕ, List, [], ◌∷◌, map}
 use Rattle.sf_commit.specs.OnLayers.{OnLayer}
 use Rattle.sf_actor.specs.sf_surface.Tokens.{ReadLeaseOf}
@@ -9,7 +9,7 @@ use Rattle.sf_actor.specs.Known.{frame_of}
 use Rattle.law_played.specs.Framing.{framed_on}
 use Rattle.law_played.specs.Histories.{Released}
 
--- the frames that a vsync releases, as they are told
+-- the frames that a vsync releases, as they are reported
 abbrev pub released_with : ℕ → List (OnLayer ReadLeaseOf) → List Released
 released_with vsync gone = map (λ (one : OnLayer ReadLeaseOf). record { vsync = vsync; on = framed_on frame_of one }) gone
 

@@ -2,7 +2,7 @@
 use Rattle.std.specs.Prelude.{◌≡◌, ℕ, ◌≤◌, List, [], ◌++◌, length, map}
 use Rattle.std.specs.List.{All, AllZip}
 use Rattle.sf_base.specs.declared.fences.Seen.{Seen}
-use Rattle.sf_commit_next.specs.sf_ready.Facts.{FactsOf, TellsSame}
+use Rattle.sf_commit_next.specs.sf_ready.Facts.{FactsOf, HasSame, TellsSame}
 use Rattle.sf_commit_next.specs.sf_ready.declared.hold.Hold.{Hold}
 use Rattle.sf_commit_next.specs.sf_token.Loads.{AllLeases, IsLookedArrival}
 use Rattle.sf_commit_next.specs.sf_token.Pending.{Arrival, QueuesOf}
@@ -10,14 +10,13 @@ use Rattle.sf_view.specs.sf_tree.Trees.{TreeOf}
 use Rattle.sf_commit_next.specs.sf_txn.Leases.{IsEyeAfter, IsShownTo}
 use Rattle.sf_commit_next.specs.sf_txn.declared.lease.Lease.{Ghosts}
 use Rattle.sf_view.specs.sf_picture.declared.picture.Picture.{Picture}
-use Rattle.sf_view.specs.Views.{ViewOf, Views}
 use Rattle.sf_commit.specs.inner.Deciding.{ShowsIts}
-use Rattle.sf_commit.specs.Handlers.{last_of, source_of}
+use Rattle.sf_commit.specs.Handlers.{last_of}
 use Rattle.sf_commit.specs.Leases.{IsReleaseOf, ShowsLease, pictures_here}
 use Rattle.sf_commit.specs.Lending.{KeptRead, reads_of}
 use Rattle.sf_commit.specs.OnLayers.{OnLayer, shown_on}
 use Rattle.sf_commit.specs.Releases.{ReleaseOf}
-use Rattle.sf_commit.specs.Rounds.{Decided, Round, StageOf, held}
+use Rattle.sf_commit.specs.Rounds.{Decided, Round, StageOf, held, pressed_in}
 
 -- a vsync begins with these layers and buffers, and with what is pending
 abbrev pub begun_with : {L : Type 0} → TreeOf → List (OnLayer L) → List (ℕ × ℕ) → List (Arrival L) → Round L
@@ -37,17 +36,16 @@ module _ {L E R C : Type 0} (lease : Ghosts L E R C) where
     pub stage_is : stage ≡ end.stage
     pub queues : new ≡ record { pending = end.pending; last = last_of old.last arrived }
     pub frames : TellsSame noted.frames end.frames
+    pub pressed : HasSame noted.pressed (pressed_in stage.tree.layers)
     pub holds : waits ≡ held lease.shown seen expected end
     pub eye_is : IsEyeAfter lease eye eye' []
 
-  -- what goes was handed back and its reads are kept, what is new is read, and the display shows the layers
-  pub record SettlesAll (stage : StageOf L) (width height : ℕ) (kept : List (KeptRead L)) (on : List (OnLayer L)) (contents : List Picture)
-      (view : ViewOf) (sources : List ℕ) (releases : List (ReleaseOf L)) (kept' : List (KeptRead L)) : Type 0 where
-    pub on_is : on ≡ map shown_on stage.on
-    pub contents_are : contents ≡ pictures_here lease stage.on
-    pub crops : All (ShowsLease lease) on
-    pub few : length on ≤ 4294967295
-    pub view_is : Views stage.tree.layers width height view
-    pub sources_are : sources ≡ map (source_of stage.on) view.drawn
-    pub released : AllZip (IsReleaseOf lease) stage.gone releases
-    pub kept_are : kept' ≡ kept ++ reads_of stage.gone
+  -- what goes was handed back and its reads are kept, and what is new is read
+  pub record SettlesAll (on gone : List (OnLayer L)) (kept : List (KeptRead L)) (readings : List (OnLayer L)) (contents : List Picture)
+      (releases : List (ReleaseOf L)) (kept' : List (KeptRead L)) : Type 0 where
+    pub on_is : readings ≡ map shown_on on
+    pub contents_are : contents ≡ pictures_here lease on
+    pub crops : All (ShowsLease lease) readings
+    pub few : length readings ≤ 4294967295
+    pub released : AllZip (IsReleaseOf lease) gone releases
+    pub kept_are : kept' ≡ kept ++ reads_of gone

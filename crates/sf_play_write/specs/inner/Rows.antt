@@ -30,10 +30,6 @@ newest_shown [] = []
 newest_shown (reply ∷ []) = rec.Repl (reply_shown reply) ∷ []
 newest_shown (reply ∷ later) = newest_shown later
 
-abbrev pub is_end : Action → Bool
-is_end action.End = true
-is_end other = false
-
 module _ {B : Type 0} where
   abbrev pub newest_of : Option (Actor B) → List Record
   newest_of None = []
@@ -48,7 +44,7 @@ module _ {B : Type 0} where
   -- an action can be shown: its actor is there, and its vsync left what is to be shown
   abbrev pub MayShowAction : SceneValue → Action → PlayerOf B → Type 0
   MayShowAction scene (action.Step place) player = place < length player.play.actor_set.actors
-  MayShowAction scene (action.Vsync report) player = TellsStage scene report player.play
+  MayShowAction scene (action.Vsync report) player = TellsStage scene player.play
   MayShowAction scene other player = Unit {0}
 
   -- What a play has shown so far is written behind what was there: the player stands along with the play of the scene, and each

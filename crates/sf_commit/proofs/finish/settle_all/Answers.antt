@@ -1,9 +1,6 @@
 use Rattle.std.proofs.Common.{◌∙◌, ◌++◌, ap, sym, subst, map, arith}
-use Rattle.sf_view.specs.Views.{ViewOf}
 use Rattle.std.specs.List.{All}
 use Rattle.std.proofs.lemmas.List.Elements.{All-nil}
-use Rattle.sf_commit.proofs.FollowLemmas.{sources_read}
-use Rattle.sf_commit.specs.Handlers.{source_of}
 use Rattle.sf_commit.specs.Leases.{ShowsLease, pictures_here}
 use Rattle.sf_commit.specs.OnLayers.{shown_on}
 use Rattle.sf_commit.proofs.finish.settle_all.Goals as goal
@@ -17,10 +14,6 @@ returns-clause-settles g c =
       contents_are = contents;
       crops = c.in_ok-open_all.ensures.crops (subst (All (ShowsLease g.L.Lease)) (sym c.new-readings.ensures.items) (All-nil (ShowsLease g.L.Lease)));
       few = omega (arith, c.len.ensures, c.if-len.false, c.open_all.new.readings.ok.0);
-      view_is = c.in_ok-view.ensures.view;
-      sources_are = c.in_ok-sources.ensures
-          ∙ ((λ i. map (source_of ((c.as_slice-2.ensures.value ∙ on) i)) ((c.as_slice.ensures ∙ ap (λ (v : ViewOf). v.drawn) c.view.view_is) i))
-          ∙ sources_read c.args.on.items c.in_ok-view.view.drawn);
       released = c.in_ok-releases.ensures.released;
       kept_are = c.in_ok-releases.ensures.kept;
     }

@@ -1,4 +1,4 @@
-use Rattle.std.proofs.Common.{◌∙◌, ap, subst, sym}
+use Rattle.std.proofs.Common.{◌∙◌, ℕ, List, ap, subst, sym}
 use Rattle.std.specs.List.{All, AllZip}
 use Rattle.sf_commit_next.specs.sf_ready.Facts.{FactsOf, HasSame}
 use Rattle.std.proofs.lemmas.List.Elements.{All-append}
@@ -10,7 +10,7 @@ use Rattle.sf_commit.proofs.HeldLemmas.{held_is, looks_begin, looks_stay}
 use Rattle.sf_commit.specs.Handlers.{last_of}
 use Rattle.sf_commit.specs.inner.Holding.{AreLooks}
 use Rattle.sf_commit_next.specs.Next.{AreRising, IsLookedAt}
-use Rattle.sf_commit.specs.Rounds.{Leads, pressed_in}
+use Rattle.sf_commit.specs.Rounds.{Leads, StageOf, pressed_in}
 use Rattle.sf_commit.proofs.follow.decide_all.Goals as goal
 
 pub look-requires : goal.look-requires
@@ -22,7 +22,7 @@ look-requires g c =
     }
 
 pub decide-requires-clause-pressed : goal.decide-requires-clause-pressed
-decide-requires-clause-pressed g c = subst (λ ls. HasSame c.note_pressed.new.facts.pressed (pressed_in ls)) c.layers.ensures.value c.in_ok-note_pressed.ensures.pressed
+decide-requires-clause-pressed g c = subst (λ (p : List ℕ). HasSame p (pressed_in c.args.tree.layers)) (sym (ap (λ (f : FactsOf). f.pressed) c.begin_vsync.ensures)) c.requires.pressed
 
 pub decide-requires-clause-looked : goal.decide-requires-clause-looked
 decide-requires-clause-looked g c =
@@ -54,8 +54,8 @@ pub returns-clause-decides : goal.returns-clause-decides
 returns-clause-decides g c =
     let comes = c.in_ok-decide.ensures.comes in
     let lasts = c.in_ok-decide.ensures.last ∙ (ap (λ (q : QueuesOf g.row.L.Denot). q.last) c.in_ok-looks.ensures.rest ∙ ap (λ (q : QueuesOf g.row.L.Denot). q.last) c.in_ok-receive.ensures) in
-    let frames = ap (λ (f : FactsOf). f.frames) c.in_ok-note_pressed.ensures.rest ∙ ap (λ (f : FactsOf). f.frames) c.begin_vsync.ensures in
-    let fresh = ap (λ (f : FactsOf). f.fresh) c.in_ok-note_pressed.ensures.rest ∙ ap (λ (f : FactsOf). f.fresh) c.begin_vsync.ensures in
+    let frames = ap (λ (f : FactsOf). f.frames) c.begin_vsync.ensures in
+    let fresh = ap (λ (f : FactsOf). f.fresh) c.begin_vsync.ensures in
     record {
       looked = c.look.new.self.pending;
       looks = subst (λ xs. AllZip (IsLookedArrival g.L.Lease) xs c.look.new.self.pending) (ap (λ (q : QueuesOf g.row.L.Denot). q.pending) c.in_ok-receive.ensures) c.in_ok-looks.ensures.looked;
@@ -72,6 +72,7 @@ returns-clause-decides g c =
       stage_is = comes.state.made;
       queues = λ i. record { pending = comes.state.waits i; last = lasts i };
       frames = comes.state.same.frames;
+      pressed = subst (λ (s : StageOf g.row.L.Denot). HasSame c.decide.new.facts.pressed (pressed_in s.tree.layers)) (sym comes.state.made) comes.state.same.pressed;
       holds = c.in_ok-waits.ensures ∙ held_is g.L.Lease.shown c.args.seen.now c.args.expected c.decide.new.stage c.decide.new.queues.pending c.decide.new.facts comes.end comes.state;
       eye_is = c.look.ensures.eye;
     }

@@ -28,14 +28,14 @@ returns-in-Ok-made-clause-some g c = record { records = _; written = c.in-Ok-wri
 
 pub returns-in-Ok-made-clause-written : goal.returns-in-Ok-made-clause-written
 returns-in-Ok-made-clause-written g c = λ pictures expected was.
-    let all = if_ok c.make_behind-composed.result.0 c.in-Ok-composed.images (λ images. AreImagesOf (map expected_by c.args.handler.now.on) c.in-Ok.told.1.items c.args.screens.now images.items) c.in-Ok-composed.is
+    let all = if_ok c.make_behind-composed.result.0 c.in-Ok-composed.images (λ images. AreImagesOf (map expected_by c.args.handler.now.on) c.in-Ok.views.items c.args.screens.now images.items) c.in-Ok-composed.is
     c.make_behind-composed.ensures.images in
     let composed = all.composed pictures (c.in-Ok.ensures.found pictures expected) was in
     let layers = c.args.handler.now.tree.layers in
-    let views = c.in-Ok.told.1.items in
+    let views = c.in-Ok.views.items in
     let images = c.in-Ok-composed.images.items in (
       subst (Writes (g.K.Sink.taken c.args.sink.now) (g.K.Sink.taken c.write_vsync.new.sink))
-          (records_are pictures c.args.plan.now c.args.timelines.now c.args.last layers c.in-Ok.told.0 views images c.in-Ok.ensures.same c.in-Ok.ensures.due composed) c.in-Ok-write_vsync.ensures.ok,
+          (records_are pictures c.args.plan.now c.args.timelines.now c.args.last layers views images c.in-Ok.ensures.due composed) c.in-Ok-write_vsync.ensures.ok,
       c.in-Ok-write_vsync.ensures.shown pictures (composed_shown pictures views images composed) (c.make_behind-composed.ensures.shown pictures was),
     )
 

@@ -2,7 +2,7 @@ use Rattle.std.proofs.Common.{◌≡◌, ℕ, ◌+◌, ◌*◌, ◌≤◌, List,
 use Rattle.sf_live_threads.specs.sf_calls_stamped.Stamps.{unstamped}
 use Rattle.sf_live_threads.specs.sf_surface.Tokens.{ReadLeaseOf}
 use Rattle.sf_live_threads.specs.sf_commit.Handlers.{HandlerOf, last_of}
-use Rattle.sf_live_threads.specs.sf_commit.Releases.{ReleaseOf, VsyncOf}
+use Rattle.sf_live_threads.specs.sf_commit.Releases.{ReleaseOf, CommittedOf}
 use Rattle.sf_live_threads.specs.sf_actor.Plain.{taken_in}
 use Rattle.sf_play_write.specs.law_rights.Standing.{GiveAll}
 use Rattle.sf_live_threads.specs.sf_live_seats.declared.seats.Seats.{Seats}
@@ -61,7 +61,7 @@ returns-clause-makes g c =
             gives =
                 subst (λ (d : Seats g.row.B.Denot). GiveAll (home_of c.args.locks.now d) (c.args.before + 1) c.in_ok-commits.field-0.releases (view_of d) (view_of after)) c.vsync.ensures.same
                 (subst (λ (rs : List (ReleaseOf ReadLeaseOf)). GiveAll (home_of c.args.locks.now decided) (c.args.before + 1) rs (view_of decided) (view_of after))
-                (c.into_vec.ensures ∙ ap (λ (v : VsyncOf ReadLeaseOf). v.releases) c.commits.view_is) c.in_ok-release_all.ensures.gives);
+                (c.into_vec.ensures ∙ ap (λ (v : CommittedOf ReadLeaseOf). v.releases) c.commits.view_is) c.in_ok-release_all.ensures.gives);
             later = subst (λ (d : Seats g.row.B.Denot). MadeLater d after) c.vsync.ensures.same c.in_ok-release_all.ensures.later;
             last = subst (λ (d : Seats g.row.B.Denot). d.last.stamp ≤ after.last.stamp) c.vsync.ensures.same c.in_ok-release_all.ensures.last;
             same_turns = c.release_all.ensures.turns;

@@ -1,16 +1,14 @@
 use Rattle.std.proofs.Common.{List, [], ◌∷◌, ◌++◌, ap, subst, ◌∙◌}
-use Rattle.std.specs.Option.{unwrap_or}
 use Rattle.law_played.specs.sf_output.declared.output.Output.{Output}
 use Rattle.law_played.specs.sf_output.declared.output.Output.TheVariants as out
 use Rattle.law_played.specs.sf_output_plan.Due.{AreShown, IsFrameDue, others_due, outputs_due}
 use Rattle.law_played.specs.sf_output_shown.Copies.{written}
-use Rattle.law_played.specs.sf_tree.DrawOrder.{draw_order}
 use Rattle.law_played.specs.sf_tree.Kept.{IsDistinct}
 use Rattle.law_played.specs.sf_tree.Trees.{TreeOf}
 use Rattle.law_played.specs.sf_commit.OnLayers.{OnLayer}
 use Rattle.sf_play_report.specs.declared.sourced.SourcedView.{SourcedView}
-use Rattle.sf_play_report.proofs.SourceLemmas.{own_sources, tree_on}
-use Rattle.sf_play_report.proofs.StageLemmas.{all_found, all_made, all_readable, dues_of, frame_shows, others_on, own_on, views_on}
+use Rattle.sf_play_report.proofs.SourceLemmas.{tree_on}
+use Rattle.sf_play_report.proofs.StageLemmas.{all_found, all_made, all_readable, dues_of, others_on, own_on, views_on}
 use Rattle.sf_play_report.proofs.sourcing.sourced_views.Goals as goal
 
 pub own_sourced-requires-clause-shows : goal.own_sourced-requires-clause-shows
@@ -22,11 +20,9 @@ own_sourced-requires-clause-shows g c =
     let due = subst (λ (t : TreeOf). IsFrameDue plan (written t.layers plan.mirrors) c.in_ok-frame.field-0.frame) c.tree-tree.ensures.tree c.in_ok-frame.ensures.frame in
     own_on c.args.handler.now.on plan tree c.in_ok-frame.field-0.frame all due
 
-pub own_sourced-requires-clause-told : goal.own_sourced-requires-clause-told
-own_sourced-requires-clause-told g c =
-    let tree = c.args.handler.now.tree.layers in
-    let plan = c.args.plan.now in
-    own_sources c.args.handler.now.on tree (draw_order tree) plan.width plan.height c.args.view c.args.sources c.requires.stands c.requires.view c.requires.sources
+pub own_sourced-requires-clause-due : goal.own_sourced-requires-clause-due
+own_sourced-requires-clause-due g c =
+    subst (λ (t : TreeOf). IsFrameDue c.args.plan.now (written t.layers c.args.plan.now.mirrors) c.in_ok-frame.field-0.frame) c.tree-tree.ensures.tree c.in_ok-frame.ensures.frame
 
 pub sourced_outputs-requires : goal.sourced_outputs-requires
 sourced_outputs-requires g c =
@@ -41,11 +37,8 @@ pub returns-clause-views : goal.returns-clause-views
 returns-clause-views g c =
     let tree = c.args.handler.now.tree.layers in
     let plan = c.args.plan.now in
-    let view = unwrap_or c.in_ok-frame.field-0.frame c.args.view in
-    let due = subst (λ (t : TreeOf). IsFrameDue plan (written t.layers plan.mirrors) c.in_ok-frame.field-0.frame) c.tree-tree.ensures.tree c.in_ok-frame.ensures.frame in
     let others = subst (λ (t : TreeOf). AreShown (others_due plan t.layers) c.in_ok-frame.field-0.others.items) c.tree-tree.ensures.tree c.in_ok-frame.ensures.others in
-    let made = all_made c.args.handler.now.on plan tree view c.in_ok-frame-2.frame c.in_ok-frame.field-0.others.items c.in_ok-others.others.items c.append.new.self.items
-    (frame_shows c.args.handler.now.on plan tree c.in_ok-frame.field-0.frame c.args.view due c.requires.view) c.in_ok-frame-2.ensures others c.in_ok-others.ensures
+    let made = all_made c.args.handler.now.on plan tree c.in_ok-frame-2.frame c.in_ok-frame.field-0.others.items c.in_ok-others.others.items c.append.new.self.items c.in_ok-frame-2.ensures others c.in_ok-others.ensures
     (c.in_ok-append.ensures.items ∙ ap (λ (l : List (Output SourcedView)). l ++ c.in_ok-others.others.items) (c.in_ok-push.ensures.items ∙ ap (λ (l : List (Output SourcedView)). l ++ out.Frame c.in_ok-frame-2.frame ∷ []) c.new-views.ensures.items)) in
     record {
       due = dues_of c.args.handler.now.on (outputs_due plan tree) c.append.new.self.items made;
@@ -56,10 +49,7 @@ pub returns-clause-found : goal.returns-clause-found
 returns-clause-found g c = λ pictures expected.
     let tree = c.args.handler.now.tree.layers in
     let plan = c.args.plan.now in
-    let view = unwrap_or c.in_ok-frame.field-0.frame c.args.view in
-    let due = subst (λ (t : TreeOf). IsFrameDue plan (written t.layers plan.mirrors) c.in_ok-frame.field-0.frame) c.tree-tree.ensures.tree c.in_ok-frame.ensures.frame in
     let others = subst (λ (t : TreeOf). AreShown (others_due plan t.layers) c.in_ok-frame.field-0.others.items) c.tree-tree.ensures.tree c.in_ok-frame.ensures.others in
-    let made = all_made c.args.handler.now.on plan tree view c.in_ok-frame-2.frame c.in_ok-frame.field-0.others.items c.in_ok-others.others.items c.append.new.self.items
-    (frame_shows c.args.handler.now.on plan tree c.in_ok-frame.field-0.frame c.args.view due c.requires.view) c.in_ok-frame-2.ensures others c.in_ok-others.ensures
+    let made = all_made c.args.handler.now.on plan tree c.in_ok-frame-2.frame c.in_ok-frame.field-0.others.items c.in_ok-others.others.items c.append.new.self.items c.in_ok-frame-2.ensures others c.in_ok-others.ensures
     (c.in_ok-append.ensures.items ∙ ap (λ (l : List (Output SourcedView)). l ++ c.in_ok-others.others.items) (c.in_ok-push.ensures.items ∙ ap (λ (l : List (Output SourcedView)). l ++ out.Frame c.in_ok-frame-2.frame ∷ []) c.new-views.ensures.items)) in
     all_found c.args.handler.now.on (λ (one : OnLayer g.row.L.Denot). g.L.Lease.picture one.lease) c.requires.crops pictures expected (outputs_due plan tree) c.append.new.self.items made

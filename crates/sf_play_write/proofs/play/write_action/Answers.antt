@@ -22,9 +22,8 @@ use Rattle.sf_play_write.proofs.play.write_action.Goals as goal
 pub show_vsync-requires-clause-stage : goal.show_vsync-requires-clause-stage
 show_vsync-requires-clause-stage g c = λ lives outlives.
     let tells = subst (λ (t : Action). MayShowAction c.requires.may.0 t c.args.player.now) c.in-Vsync.is c.requires.may.2 in
-    subst (λ (r : VsyncReport). IsStage expected_by c.args.plan.now c.handler.result.now r.view r.sources) (sym c.into_report.ensures)
-    (subst (λ (h : HandlerOf ReadLeaseOf). IsStage expected_by c.args.plan.now h c.in-Vsync.report.view c.in-Vsync.report.sources) (sym c.handler.ensures.handler)
-    (subst (λ (p : Plan). IsStage expected_by p c.args.player.now.play.handler c.in-Vsync.report.view c.in-Vsync.report.sources) (sym c.requires.may.1) tells.stage))
+    subst (λ (h : HandlerOf ReadLeaseOf). IsStage expected_by c.args.plan.now h) (sym c.handler.ensures.handler)
+    (subst (λ (p : Plan). IsStage expected_by p c.args.player.now.play.handler) (sym c.requires.may.1) tells.stage)
 
 pub returns-in-Step-clause-ok : goal.returns-in-Step-clause-ok
 returns-in-Step-clause-ok g c = λ scene may shown.

@@ -14,7 +14,7 @@ returns-in-Err-clause-cut g c = cut_none (g.K.Sink.taken c.args.sink.now)
 
 pub compose_views-requires-clause-readable : goal.compose_views-requires-clause-readable
 compose_views-requires-clause-readable g c = λ lives outlives.
-    subst (λ (contents : List Picture). AreReadableViews contents c.in-Ok.told.1.items) (sym (map-id c.contents.result.now ∙ c.contents.ensures.pictures)) c.in-Ok.ensures.readable
+    subst (λ (contents : List Picture). AreReadableViews contents c.in-Ok.views.items) (sym (map-id c.contents.result.now ∙ c.contents.ensures.pictures)) c.in-Ok.ensures.readable
 
 pub returns-in-Err-compose_views-clause-err : goal.returns-in-Err-compose_views-clause-err
 returns-in-Err-compose_views-clause-err g c = λ pictures expected shown. part_none (g.K.Sink.taken c.args.sink.now) _
@@ -25,17 +25,17 @@ returns-in-Err-compose_views-clause-cut g c = cut_none (g.K.Sink.taken c.args.si
 pub returns-in-Ok-compose_views-clause-ok : goal.returns-in-Ok-compose_views-clause-ok
 returns-in-Ok-compose_views-clause-ok g c = λ pictures expected was.
     let contents = map-id c.contents.result.now ∙ c.contents.ensures.pictures in
-    let finds = subst (λ (l : List Picture). FindPictures pictures l c.in-Ok.told.1.items) (sym contents) (c.in-Ok.ensures.found pictures expected) in
-    vsync_written c.write_vsync.result _ _ pictures c.args.plan.now c.args.timelines.now c.args.report c.args.handler.now.tree.layers c.in-Ok.told.0 c.in-Ok.told.1.items c.in-Ok-compose_views.images.items
-    c.compose_views.new.screens c.write_vsync.new.screens c.in-Ok.ensures.same c.in-Ok.ensures.due (c.in-Ok-compose_views.ensures.images.composed pictures finds was) c.write_vsync.ensures.ok
+    let finds = subst (λ (l : List Picture). FindPictures pictures l c.in-Ok.views.items) (sym contents) (c.in-Ok.ensures.found pictures expected) in
+    vsync_written c.write_vsync.result _ _ pictures c.args.plan.now c.args.timelines.now c.args.report c.args.handler.now.tree.layers c.in-Ok.views.items c.in-Ok-compose_views.images.items
+    c.compose_views.new.screens c.write_vsync.new.screens c.in-Ok.ensures.due (c.in-Ok-compose_views.ensures.images.composed pictures finds was) c.write_vsync.ensures.ok
     (c.write_vsync.ensures.shown pictures) (c.compose_views.ensures.shown pictures was)
 
 pub returns-in-Ok-compose_views-clause-err : goal.returns-in-Ok-compose_views-clause-err
 returns-in-Ok-compose_views-clause-err g c = λ pictures expected was.
     let contents = map-id c.contents.result.now ∙ c.contents.ensures.pictures in
-    let finds = subst (λ (l : List Picture). FindPictures pictures l c.in-Ok.told.1.items) (sym contents) (c.in-Ok.ensures.found pictures expected) in
-    vsync_cut c.write_vsync.result _ _ pictures c.args.plan.now c.args.timelines.now c.args.report c.args.handler.now.tree.layers c.in-Ok.told.0 c.in-Ok.told.1.items c.in-Ok-compose_views.images.items
-    c.in-Ok.ensures.same c.in-Ok.ensures.due (c.in-Ok-compose_views.ensures.images.composed pictures finds was) c.write_vsync.ensures.err
+    let finds = subst (λ (l : List Picture). FindPictures pictures l c.in-Ok.views.items) (sym contents) (c.in-Ok.ensures.found pictures expected) in
+    vsync_cut c.write_vsync.result _ _ pictures c.args.plan.now c.args.timelines.now c.args.report c.args.handler.now.tree.layers c.in-Ok.views.items c.in-Ok-compose_views.images.items
+    c.in-Ok.ensures.due (c.in-Ok-compose_views.ensures.images.composed pictures finds was) c.write_vsync.ensures.err
 
 pub returns-in-Ok-compose_views-clause-some : goal.returns-in-Ok-compose_views-clause-some
 returns-in-Ok-compose_views-clause-some g c = some_written c.write_vsync.result _ _ _ c.write_vsync.ensures.ok

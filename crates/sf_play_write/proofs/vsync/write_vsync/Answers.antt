@@ -12,32 +12,32 @@ use Rattle.sf_play_write.proofs.vsync.write_vsync.Goals as goal
 pub returns-then-not-has_commits-clause-ok : goal.returns-then-not-has_commits-clause-ok
 returns-then-not-has_commits-clause-ok g c =
     subst (Writes (g.K.Sink.taken c.args.sink.now) (g.K.Sink.taken c.args.sink.now))
-    (no_records c.args.facts.commits (told_by c.args.timelines.now c.args.facts (pixels_in c.args.images.items)) (sym (c.has_commits.ensures ∙ ap has_commits c.as_slice.ensures) ∙ c.if-not-has_commits.true))
+    (no_records c.args.report.commits (told_by c.args.timelines.now c.args.report (pixels_in c.args.images.items)) (sym (c.has_commits.ensures ∙ ap has_commits c.as_slice.ensures) ∙ c.if-not-has_commits.true))
     (writes_none (g.K.Sink.taken c.args.sink.now))
 
 pub returns-in-Err-clause-err : goal.returns-in-Err-clause-err
 returns-in-Err-clause-err g c =
-    head_cut _ _ (head_by c.args.timelines.now c.args.facts) _ _ (all_records c.args.timelines.now c.args.facts c.args.images.items (sym (c.has_commits.ensures ∙ ap has_commits c.as_slice.ensures) ∙ c.if-not-has_commits.false))
-    (c.in-Err.ensures.err (head_by c.args.timelines.now c.args.facts) c.vsync_record-head.ensures)
+    head_cut _ _ (head_by c.args.timelines.now c.args.report) _ _ (all_records c.args.timelines.now c.args.report c.args.images.items (sym (c.has_commits.ensures ∙ ap has_commits c.as_slice.ensures) ∙ c.if-not-has_commits.false))
+    (c.in-Err.ensures.err (head_by c.args.timelines.now c.args.report) c.vsync_record-head.ensures)
 
 pub returns-in-Err-write_commits-clause-err : goal.returns-in-Err-write_commits-clause-err
 returns-in-Err-write_commits-clause-err g c =
-    middle_cut _ _ _ (head_by c.args.timelines.now c.args.facts) _ _ _ (all_records c.args.timelines.now c.args.facts c.args.images.items (sym (c.has_commits.ensures ∙ ap has_commits c.as_slice.ensures) ∙ c.if-not-has_commits.false))
-    (c.in-Ok.ensures.ok (head_by c.args.timelines.now c.args.facts) c.vsync_record-head.ensures)
+    middle_cut _ _ _ (head_by c.args.timelines.now c.args.report) _ _ _ (all_records c.args.timelines.now c.args.report c.args.images.items (sym (c.has_commits.ensures ∙ ap has_commits c.as_slice.ensures) ∙ c.if-not-has_commits.false))
+    (c.in-Ok.ensures.ok (head_by c.args.timelines.now c.args.report) c.vsync_record-head.ensures)
     (subst (λ (l : List Commit). WritesPart (g.K.Sink.taken c.write_made.new.sink) (g.K.Sink.taken c.write_commits.new.sink) (map rec.Comm (map commit_shown l))) c.as_slice-2.ensures c.in-Err-write_commits.ensures.err)
 
 pub returns-clause-ok : goal.returns-clause-ok
 returns-clause-ok g c =
-    tail_written c.write_outputs.result _ _ _ _ (head_by c.args.timelines.now c.args.facts) _ _ _
-    (all_records c.args.timelines.now c.args.facts c.args.images.items (sym (c.has_commits.ensures ∙ ap has_commits c.as_slice.ensures) ∙ c.if-not-has_commits.false))
-    (c.in-Ok.ensures.ok (head_by c.args.timelines.now c.args.facts) c.vsync_record-head.ensures)
+    tail_written c.write_outputs.result _ _ _ _ (head_by c.args.timelines.now c.args.report) _ _ _
+    (all_records c.args.timelines.now c.args.report c.args.images.items (sym (c.has_commits.ensures ∙ ap has_commits c.as_slice.ensures) ∙ c.if-not-has_commits.false))
+    (c.in-Ok.ensures.ok (head_by c.args.timelines.now c.args.report) c.vsync_record-head.ensures)
     (subst (λ (l : List Commit). Writes (g.K.Sink.taken c.write_made.new.sink) (g.K.Sink.taken c.write_commits.new.sink) (map rec.Comm (map commit_shown l))) c.as_slice-2.ensures c.in-Ok-write_commits.ensures.ok)
     c.write_outputs.ensures.ok
 
 pub returns-clause-err : goal.returns-clause-err
 returns-clause-err g c =
-    tail_part c.write_outputs.result _ _ _ _ (head_by c.args.timelines.now c.args.facts) _ _ _
-    (all_records c.args.timelines.now c.args.facts c.args.images.items (sym (c.has_commits.ensures ∙ ap has_commits c.as_slice.ensures) ∙ c.if-not-has_commits.false))
-    (c.in-Ok.ensures.ok (head_by c.args.timelines.now c.args.facts) c.vsync_record-head.ensures)
+    tail_part c.write_outputs.result _ _ _ _ (head_by c.args.timelines.now c.args.report) _ _ _
+    (all_records c.args.timelines.now c.args.report c.args.images.items (sym (c.has_commits.ensures ∙ ap has_commits c.as_slice.ensures) ∙ c.if-not-has_commits.false))
+    (c.in-Ok.ensures.ok (head_by c.args.timelines.now c.args.report) c.vsync_record-head.ensures)
     (subst (λ (l : List Commit). Writes (g.K.Sink.taken c.write_made.new.sink) (g.K.Sink.taken c.write_commits.new.sink) (map rec.Comm (map commit_shown l))) c.as_slice-2.ensures c.in-Ok-write_commits.ensures.ok)
     c.write_outputs.ensures.err

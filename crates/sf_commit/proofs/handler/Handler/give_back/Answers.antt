@@ -97,6 +97,7 @@ invariant_of-self g c =
           })
           (c.put_back.ensures.contents ∙ ap (λ (xs : List (OnLayer g.row.L.Denot)). pictures g.L.Lease xs) c.deref.ensures.value),
       room_back _ (length inside.on.items) _ inside.has_changed _ _ _ _ c.self.invariant.1 (omega (arith, many)) c.put_back.ensures.no_slots (omega (arith, c.put_back.ensures.slots)) c.put_back.ensures.no_contents,
+      c.self.invariant.2,
     )
 
 pub returns-clause-back : goal.returns-clause-back

@@ -42,6 +42,7 @@ invariant_of-self g c =
           })
           (ap (λ v. v.items) c.replace-list.ensures.after ∙ c.new.ensures.items),
       room_lent _ (length inside.on.items) _ _ inside.has_changed _ _ c.self.invariant.1 (lent_length g.L.Lease inside.on.items _ given) (omega (arith, many)),
+      c.self.invariant.2,
     )
 
 pub returns-clause-pictures : goal.returns-clause-pictures

@@ -20,7 +20,7 @@ show_next-requires-clause-stage g c κs within =
     let self = c.args.self.now in
     let start = c.requires.kept.0 in
     let old : Sitting g.row.B.Denot = record { handler = self.decider.handler; seats = c.args.first.now.seats; number = self.vsyncs } in
-    subst (λ (due : Option VsyncReport). IfSome due (λ (last : VsyncReport). IsStage expected_by self.plan self.decider.handler last.view last.sources)) (sym c.take.ensures.value)
+    subst (λ (due : Option VsyncReport). IfSome due (λ (last : VsyncReport). IsStage expected_by self.plan self.decider.handler)) (sym c.take.ensures.value)
     (stage_due _ g.B.TableName.table c.args.locks.now self.period self.plan start.decider.handler.tree.most self.timelines.items (g.K.Sink.taken start.sink.now) (g.K.Sink.taken self.sink.now) self.screens old self.due
     c.requires.kept.1.1.log.sits)
 

@@ -1,6 +1,6 @@
 use Rattle.std.proofs.Common.{◌≡◌, ap, refl, subst, sym, true, ◌∙◌, ◌+◌, ◌*◌, List, ℕ}
 use Rattle.std.specs.List.{All}
-use Rattle.sf_play_report.specs.sf_commit.Releases.{ReleaseOf, VsyncOf}
+use Rattle.sf_play_report.specs.sf_commit.Releases.{CommittedOf, ReleaseOf}
 use Rattle.sf_play_report.specs.sf_surface.Tokens.{ReadLeaseOf}
 use Rattle.sf_play_report.specs.sf_actor.Desks.{DeskHome, has_queue}
 use Rattle.sf_play_report.specs.sf_actor.Plain.{home_of, taken_in, view_of}
@@ -25,7 +25,7 @@ release_all-requires g c =
     let there = queues_there _ c.requires.may.scene c.requires.may.so play stands c.see-seen.new.self c.see-seen.ensures.times c.in_ok-arrived.arrived.items c.take.new.self.desk.arrivals c.in_ok-arrived.ensures.taken
     _ c.vsync.new.handler c.take.new.self.desk.turns c.vsync.new.self.desk.turns c.see-seen.result (c.from.result * c.self.inside.period) c.in_ok-commits.field-0 c.in_ok-commits.ensures.decides
     (record { plain = λ a b e. e; picture = λ a b e. e; number = λ a b e. ap (λ (p : ℕ × ℕ). p.1) e }) taken (home_of c.vsync.new.self.desk) home in
-    record { there = subst (λ (rs : List (ReleaseOf ReadLeaseOf)). All (λ (r : ReleaseOf ReadLeaseOf). has_queue (home_of c.vsync.new.self.desk) r.queue.0 ≡ true) rs) (sym (c.into_vec.ensures ∙ ap (λ (v : VsyncOf ReadLeaseOf). v.releases) c.commits.view_is)) there }
+    record { there = subst (λ (rs : List (ReleaseOf ReadLeaseOf)). All (λ (r : ReleaseOf ReadLeaseOf). has_queue (home_of c.vsync.new.self.desk) r.queue.0 ≡ true) rs) (sym (c.into_vec.ensures ∙ ap (λ (v : CommittedOf ReadLeaseOf). v.releases) c.commits.view_is)) there }
 
 pub returns-clause-makes : goal.returns-clause-makes
 returns-clause-makes g c =
@@ -47,14 +47,12 @@ returns-clause-makes g c =
         turns = c.vsync.ensures.turns;
         only_decides = c.vsync.ensures.only;
         gives = subst (λ (rs : List (ReleaseOf ReadLeaseOf)). GivesFrames (home_of c.vsync.new.self.desk) (c.self.inside.vsyncs + 1) rs (view_of c.vsync.new.self.desk) (view_of c.release_all.new.actor_set.desk))
-            (c.into_vec.ensures ∙ ap (λ (v : VsyncOf ReadLeaseOf). v.releases) c.commits.view_is) c.in_ok-release_all.ensures.gives;
+            (c.into_vec.ensures ∙ ap (λ (v : CommittedOf ReadLeaseOf). v.releases) c.commits.view_is) c.in_ok-release_all.ensures.gives;
         only_gives = c.in_ok-release_all.ensures.only;
         rest = refl;
       };
       number = refl;
       expected = ap (λ (n : ℕ). n * c.self.inside.period) number;
-      commits = ap (λ (v : VsyncOf ReadLeaseOf). v.commits) c.commits.view_is;
-      view = ap (λ (v : VsyncOf ReadLeaseOf). v.view) c.commits.view_is;
-      sources = ap (λ (v : VsyncOf ReadLeaseOf). v.sources) c.commits.view_is;
-      held = ap (λ (v : VsyncOf ReadLeaseOf). v.held) c.commits.view_is;
+      commits = ap (λ (v : CommittedOf ReadLeaseOf). v.commits) c.commits.view_is;
+      held = ap (λ (v : CommittedOf ReadLeaseOf). v.held) c.commits.view_is;
     })
