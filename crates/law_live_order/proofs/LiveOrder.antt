@@ -1,10 +1,10 @@
 -- What threads did is in one order: that of the stamps.
-use Rattle.std.proofs.Common.{◌≡◌, ◌≢◌, ℕ, zero, suc, pred, ◌+◌, ◌*◌, ◌-◌, ◌<◌, ◌≤◌, false, List, [], ◌∷◌, ◌++◌, length, get_or, map, reverse, Option, Some, None, slice_get, refl, sym, ap, subst, ◌∙◌, inl, inr, true≢false, arith}
-use Rattle.std.specs.Prelude.{Contains, ◌⊎◌, option_map}
+use Rattle.std.proofs.Common.{◌≡◌, ◌≢◌, ℕ, zero, suc, pred, ◌+◌, ◌*◌, ◌-◌, ◌<◌, ◌≤◌, true, List, [], ◌∷◌, ◌++◌, length, get_or, map, reverse, Option, Some, None, slice_get, refl, sym, ap, subst, ◌∙◌, inl, inr, true≢false, arith}
+use Rattle.std.specs.Prelude.{Contains, ◌⊎◌, is_none, option_map}
 use Rattle.std.specs.List.{AllZip}
 use Rattle.std.proofs.lemmas.Bool.{cases_lt}
 use Rattle.std.proofs.lemmas.List.{get_or-append_right, get_or_append_left, length-append, map-append, reverse-append}
-use Rattle.std.proofs.lemmas.List.Elements.{All-contains, Contains-get_or}
+use Rattle.std.proofs.lemmas.List.Elements.{All-contains, Contains-append_left, Contains-append_right, Contains-get_or}
 use Rattle.std.proofs.lemmas.Option.{get_or_from_slice_get, slice_get-map, slice_get_read, slice_get_within}
 use Rattle.atomic_table.specs.Seated.{TableId}
 use Rattle.law_order.specs.Order.{ArrivalAt, CallAt, Happened, InOneOrder, IsArrival, IsCall, IsLaterStep, IsLaterThere}
@@ -13,9 +13,10 @@ use Rattle.law_threads.specs.sf_actor.Known.{plain_arrival}
 use Rattle.law_threads.specs.sf_actor.Plain.{PlainOf, home_of as plain_home, view_of as plain_view}
 use Rattle.law_threads.specs.sf_calls.Histories.{Begins, calls_by}
 use Rattle.law_threads.specs.sf_live_compositor.Vsyncs.{Begin, More, Sitting, Vsyncs}
-use Rattle.law_threads.specs.sf_live_seats.Arriving.{ArrivalEntry, Arriving}
+use Rattle.law_threads.specs.sf_calls_stamped.Stamps.{stamp_of}
+use Rattle.law_threads.specs.sf_live_seats.Arriving.{ArrivalEntry, ArrivalsPass, Arriving}
 use Rattle.law_threads.specs.sf_live_seats.Reuniting.{SendsAfter}
-use Rattle.law_threads.specs.sf_live_seats.Seats.{AreSeats, moments_of, view_of}
+use Rattle.law_threads.specs.sf_live_seats.Seats.{AreSeats, calls_made, moments_of, post_moment, posts_of, sent_in, tells_of, view_of}
 use Rattle.law_threads.specs.sf_live_seats.declared.first.FirstSeats.{FirstSeats}
 use Rattle.law_threads.specs.sf_live_seats.declared.locks.Locks.{Locks}
 use Rattle.law_threads.specs.sf_live_seats.declared.seats.Seats.{Seats}
@@ -45,7 +46,7 @@ use Rattle.law_threads.specs.Members.{stamps}
 use Rattle.law_threads.specs.Stamped.{AreStamped}
 use Rattle.law_threads.proofs.ActorAsCaller.{all_rise, told as told_of}
 use Rattle.law_threads.proofs.CallCounts.{IsAt}
-use Rattle.law_threads.proofs.CallStamps.{by_there}
+use Rattle.law_threads.proofs.CallStamps.{by_there, sent_there}
 use Rattle.law_threads.proofs.ReturnedSeats.{AtJoin, at_join, reunited_at}
 use Rattle.law_threads.proofs.law_played_lemmas.RunGrowth.{not_none}
 use Rattle.law_threads.proofs.law_played_lemmas.Members.{has_cases, has_here, has_later, has_none, map_has}
@@ -59,6 +60,10 @@ use Rattle.law_live_order.proofs.ArrivalStamps.{IsSentAt, arrival_stamp, sent_at
 use Rattle.law_live_order.proofs.CommittedArrivals.{commits_timed}
 use Rattle.law_live_order.proofs.CompositorCalls.{IsTimedCall, calls_timed, own_was}
 use Rattle.law_live_order.proofs.VsyncStamps.{stamp_rises, vsync_stamp}
+
+is_nothing : {X : Type 0} (o : Option X) → is_none o ≡ true → o ≡ None
+is_nothing None none = refl
+is_nothing (Some x) none = absurd (true≢false (sym none))
 
 some_is : {X : Type 0} (x y : X) → Some x ≡ Some y → x ≡ y
 some_is x y e = cc (e)
@@ -292,30 +297,54 @@ module _ {B : Type 0} (lease : Ghosts ReadLeaseOf SeatView ReadLeaseOf Issued) (
             sent_by = sent_at seen place arrived (ap (λ calls. slice_get (sent calls) place) (sym j.closes.arrived) ∙ some);
           }
 
+  -- an actor sent it
+  actor_sends : (s : ArrivalAt) (sent_it : IsArrived s) → sent_it.arrived.actor.0 ≡ 0 → ⊥
+  actor_sends s sent_it none =
+      let named = All-contains (λ (arrived : Arrival ReadLeaseOf). Contains (map number_of (map of_at ends)) arrived.actor.0) (sent desk.arrivals) sent_it.arrived (senders lease scene table period most locks last ends desk is) sent_it.there in
+      not_none scene (map of_at ends) (plain_home desk) (plain_view desk) 0 j.limits (actors lease scene table period most locks last ends desk is)
+      (subst (Contains (map number_of (map of_at ends))) none named) refl
+
+  -- the call that sent it is one of this actor
+  own_send : (by : ℕ) (actor : IsActor by) (s : ArrivalAt) (sent_it : IsArrived s) → by ≡ s.entry.actor → Contains (calls_by actor.end.seats.by actor.join.reunited.arrivals.seen) sent_it.sent_by.e
+  own_send by actor s sent_it same =
+      let e = sent_it.sent_by.e in
+      let own : e.by ≡ actor.end.seats.by = sent_it.sent_by.by ∙ sym sent_it.by ∙ sym same ∙ sym actor.served in
+      subst (λ (es : List ArrivalEntry). Contains es e) actor.join.arrivals_on.calls
+      (subst (λ (es : List ArrivalEntry). Contains (calls_by actor.end.seats.by es) e) (sym sent_it.sent_by.is) (by_there actor.end.seats.by sent_it.sent_by.more e sent_it.sent_by.earlier own))
+
   sends_rise : (one : CallAt) (s : ArrivalAt) → IsCall happened_here one → IsArrival happened_here s → one.entry.caller ≡ s.entry.actor → one.entry.step < s.entry.step → stamp one.queue one.place < arrival_stamp seen s.number
   sends_rise one s a b same less =
       let m = call_made one a in
       let sent_it = arrived_at_number s s.number refl b in
       let e = sent_it.sent_by.e in
-      let some = actor_sends sent_it in
-      let actor = by_actor one m (λ none. some (sym sent_it.by ∙ sym same ∙ none)) in
-      let by : e.by ≡ actor.end.seats.by = sent_it.sent_by.by ∙ sym sent_it.by ∙ sym same ∙ sym actor.served in
-      let there : Contains (calls_by actor.end.seats.by actor.join.reunited.arrivals.seen) e =
-      subst (λ (es : List ArrivalEntry). Contains es e) actor.join.arrivals_on.calls
-      (subst (λ (es : List ArrivalEntry). Contains (calls_by actor.end.seats.by es) e) (sym sent_it.sent_by.is) (by_there actor.end.seats.by sent_it.sent_by.more e sent_it.sent_by.earlier by)) in
-      let after : SendsAfter actor.end.seats e = actor.join.reunites.sends actor.join.other e there in
+      let actor = by_actor one m (λ none. actor_sends s sent_it (sym sent_it.by ∙ sym same ∙ none)) in
+      let after : SendsAfter actor.end.seats e = actor.join.reunites.sends actor.join.other e (own_send one.entry.caller actor s sent_it same) in
       let step : after.step ≡ s.entry.step = one_step e.call.1 after.step sent_it.arrived.step after.txn sent_it.sent_by.txn after.sends sent_it.sent_by.sends ∙ sym sent_it.step in
       let above = after.above (one.entry.step, stamp one.queue one.place) (moment_of one.entry.caller actor one m refl) (omega (arith, less, step)) in
       let stamp_is = stamp_sent seen sent_it.place sent_it.arrived sent_it.sent_by in
       let number = ap (arrival_stamp seen) sent_it.number in
       omega (arith, above, stamp_is, number)
-    where
-      -- an actor sent it
-      actor_sends : (sent_it : IsArrived s) → sent_it.arrived.actor.0 ≡ 0 → ⊥
-      actor_sends sent_it none =
-          let named = All-contains (λ (arrived : Arrival ReadLeaseOf). Contains (map number_of (map of_at ends)) arrived.actor.0) (sent desk.arrivals) sent_it.arrived (senders lease scene table period most locks last ends desk is) sent_it.there in
-          not_none scene (map of_at ends) (plain_home desk) (plain_view desk) 0 j.limits (actors lease scene table period most locks last ends desk is)
-          (subst (Contains (map number_of (map of_at ends))) none named) refl
+
+  -- where there is no intake, the call that sent it is among what its actor did
+  told_rise : tells_of locks ≡ true → (s : ArrivalAt) (next : CallAt) → IsArrival happened_here s → IsCall happened_here next → s.entry.actor ≡ next.entry.caller → s.entry.step < next.entry.step
+      → arrival_stamp seen s.number < stamp next.queue next.place
+  told_rise tells s next b a same less =
+      let n = call_made next a in
+      let sent_it = arrived_at_number s s.number refl b in
+      let e = sent_it.sent_by.e in
+      let actor = by_actor next n (λ none. actor_sends s sent_it (sym sent_it.by ∙ same ∙ none)) in
+      let seats = actor.end.seats in
+      let there : Contains (calls_by seats.by seats.arrivals.seen) e =
+      subst (λ (pass : ArrivalsPass). Contains (calls_by seats.by pass.seen) e) (actor.join.reunites.kept (is_nothing locks.intake tells)) (own_send next.entry.caller actor s sent_it (sym same)) in
+      let sends : Contains (moments_of seats) (sent_it.arrived.step, stamp_of e) =
+      Contains-append_right (calls_made seats.by seats.queues.items) (sent_in (calls_by seats.by seats.arrivals.seen) ++ map post_moment (posts_of seats.intake)) (sent_it.arrived.step, stamp_of e)
+      (Contains-append_left (sent_in (calls_by seats.by seats.arrivals.seen)) (map post_moment (posts_of seats.intake)) (sent_it.arrived.step, stamp_of e)
+      (sent_there (calls_by seats.by seats.arrivals.seen) e sent_it.arrived.step sent_it.sent_by.txn there sent_it.sent_by.sends)) in
+      let step = sent_it.step in
+      let rise = actor.own.in_order.rise (sent_it.arrived.step, stamp_of e) (next.entry.step, stamp next.queue next.place) sends (moment_of next.entry.caller actor next n refl) (omega (arith, less, step)) in
+      let stamp_is = stamp_sent seen sent_it.place sent_it.arrived sent_it.sent_by in
+      let number = ap (arrival_stamp seen) sent_it.number in
+      omega (arith, rise, stamp_is, number)
 
   -- the compositor's calls
   compositor_call : (c : CallAt) → IsCall happened_here c → c.entry.caller ≡ 0 → IsTimedCall lease table locks period j.first j.log c.entry.step (stamp c.queue c.place)
@@ -338,7 +367,7 @@ module _ {B : Type 0} (lease : Ghosts ReadLeaseOf SeatView ReadLeaseOf Issued) (
       (first_by lease scene table period most locks last ends desk is) (arrivals_go lease scene table period most locks last ends desk is).begins begins_all at commit
       (subst (λ (rs : List VsyncRecords). Contains rs at) (reports_are lease scene table period most locks last ends desk is) there) has).behind
 
-  pub in_one_order : InOneOrder false happened_here
+  pub in_one_order : InOneOrder (tells_of locks) happened_here
   in_one_order = record {
     call = λ c. 2 * stamp c.queue c.place + 1;
     arrival = λ n. 2 * arrival_stamp seen n + 1;
@@ -348,7 +377,7 @@ module _ {B : Type 0} (lease : Ghosts ReadLeaseOf SeatView ReadLeaseOf Issued) (
     vsyncs = λ one next less. let rise = stamp_rises lease table locks period j.begins last j.log j.number one next less in omega (arith, rise);
     steps = λ one next a b later. let less = steps_rise one next a b later in omega (arith, less);
     sends = λ one s a b same less. let rise = sends_rise one s a b same less in omega (arith, rise);
-    told = λ told. absurd (true≢false (sym told));
+    told = λ tells s next b a same less. let rise = told_rise tells s next b a same less in omega (arith, rise);
     commits = λ at commit there has. let less = commits_rise at commit there has in omega (arith, less);
     releases = λ one a compositor. let timed = compositor_call one a compositor in let behind = timed.behind in omega (arith, behind);
     ends = λ one next a compositor less. let timed = compositor_call one a compositor in let before = timed.before next less in omega (arith, before);

@@ -1,9 +1,10 @@
 -- What happened in a run in threads up to its join.
-use Rattle.std.specs.Prelude.{ℕ, false, List, map}
+use Rattle.std.specs.Prelude.{ℕ, List, map}
 use Rattle.atomic_table.specs.Seated.{TableId}
 use Rattle.law_order.specs.Order.{Happened, InOneOrder}
 use Rattle.law_threads.specs.sf_actor.Plain.{PlainOf}
 use Rattle.law_threads.specs.sf_live_compositor.Vsyncs.{Sitting}
+use Rattle.law_threads.specs.sf_live_seats.Seats.{tells_of}
 use Rattle.law_threads.specs.sf_live_seats.declared.locks.Locks.{Locks}
 use Rattle.law_threads.specs.sf_live_threads.Walks.{Moment}
 use Rattle.law_threads.specs.sf_play.Players.{arrived_at, run_so}
@@ -29,4 +30,4 @@ module _ {B : Type 0} (lease : Ghosts ReadLeaseOf SeatView ReadLeaseOf Issued) (
 abbrev pub JoinsInOneOrder : (B : Type 0) → Ghosts ReadLeaseOf SeatView ReadLeaseOf Issued → TableId → Type 0
 JoinsInOneOrder B lease table =
     (scene : SceneValue) (period most : ℕ) (locks : Locks B) (last : Sitting B) (ends : List (Moment B)) (desk : PlainOf B)
-    → (is : IsJoined lease scene table period most locks last ends desk) → InOneOrder false (happened_so lease scene table period most locks last ends desk is)
+    → (is : IsJoined lease scene table period most locks last ends desk) → InOneOrder (tells_of locks) (happened_so lease scene table period most locks last ends desk is)

@@ -3,10 +3,14 @@
 
 ghost use Rattle.law_live_order.specs.Happened.{JoinsInOneOrder};
 
+pub use law_joins::{
+    a_run_in_threads_goes_on, buffers_among_threads_have_their_pictures, what_threads_did_is_played,
+};
 use law_threads::{Lease, ReadLease, TableName};
 
 /// The calls, the arrivals and the vsyncs of a run in threads, up to its join, are in one order, however
-/// transactions arrive. It does not say that a sender's later calls come after what it sent.
+/// transactions arrive. Where they do not come through an intake, a sender's later calls come after what
+/// it sent, too.
 pub fn what_threads_did_is_in_one_order<B: TableName>()
     ensures { JoinsInOneOrder B ⟦<ReadLease<B> as Lease>⟧ B.table }
 {}

@@ -1,15 +1,13 @@
 -- Each transition of a play, and so a whole play, passes nobody over.
-use Rattle.std.proofs.Common.{◌≡◌, ℕ, suc, zero, ◌+◌, ◌*◌, Bool, true, false, ◌==◌, ◌&&◌, true≢false, List, [], ◌∷◌, ◌++◌, length, map, Option, Some, None, refl, sym, ap, subst, ◌∙◌, inl, inr, arith, Contains}
+use Rattle.std.proofs.Common.{◌≡◌, ℕ, suc, zero, ◌+◌, ◌*◌, Bool, true, false, ◌==◌, List, [], ◌∷◌, ◌++◌, length, map, Option, Some, None, refl, sym, ap, subst, ◌∙◌, inl, inr, arith}
 use Rattle.std.proofs.lemmas.Bool.Decides.{nat_tests}
 use Rattle.std.proofs.lemmas.List.{append-nil, length-append}
-use Rattle.std.proofs.lemmas.List.Elements.{All-append, All-cons, All-nil, All-weaker, Contains-append_left}
+use Rattle.std.proofs.lemmas.List.Elements.{All-append, All-cons, All-nil, All-weaker}
 use Rattle.std.proofs.lemmas.Option.{get_or_from_slice_get, slice_get_within}
-use Rattle.std.specs.Prelude.{All, ◌⊎◌, if◌then◌else◌, find, is_none, slice_get}
-use Rattle.std.specs.List.{flat_map}
+use Rattle.std.specs.Prelude.{All, ◌⊎◌, if◌then◌else◌, find, slice_get}
 use Rattle.std.specs.Option.{unwrap_or}
 use Rattle.sf_base.specs.declared.fences.Seen.{Seen}
 use Rattle.sf_commit.proofs.DecideLemmas.{all_left}
-use Rattle.law_played.specs.sf_actor.Makers.{Run}
 use Rattle.law_played.specs.sf_actor.Names.{FrameOf}
 use Rattle.law_played.specs.sf_actor.Scripts.{picture_at}
 use Rattle.law_played.specs.sf_actor.Steps.{sent_by}
@@ -19,9 +17,7 @@ use Rattle.law_played.specs.sf_actor.Written as written
 use Rattle.law_played.specs.sf_actor.declared.done.Done.{Done}
 use Rattle.sf_commit.specs.inner.Deciding.{DecidesSame}
 use Rattle.law_played.specs.sf_commit.Rounds.{IsNext, Leads, Round, committed, facts_of}
-use Rattle.law_played.specs.sf_commit_next.Heads.{head_hold}
 use Rattle.law_played.specs.sf_ready.Facts.{FactsOf}
-use Rattle.law_played.specs.sf_ready.declared.hold.Hold.{Hold}
 use Rattle.law_played.specs.sf_record.declared.event.Event.{Event}
 use Rattle.law_played.specs.sf_record.declared.event.VsyncRecords.{VsyncRecords}
 use Rattle.law_played.specs.sf_record.declared.record.CommitRecord.{CommitRecord}
@@ -33,26 +29,22 @@ use Rattle.law_played.specs.sf_script_scene.declared.step.Step.{Step}
 use Rattle.law_played.specs.sf_token.Pending.{Arrival, IsRisingFrom, has_number, is_of}
 use Rattle.law_played.specs.sf_txn.Buffers.{Buffer}
 use Rattle.law_played.specs.sf_txn.Transactions.{without_first}
-use Rattle.law_played.proofs.ArrivedFrames.{any_passes}
-use Rattle.law_played.proofs.AsQueued.{one_passes}
-use Rattle.law_played.proofs.Members.{has_joined, joined_has}
 use Rattle.law_played.proofs.OrderLemmas.{found_has, order_more, waiting_found}
-use Rattle.law_played.proofs.PathLemmas.{IsReadyNext, WaitsAfter, commits_along, ready_next, told_along, told_at, waits_along}
+use Rattle.law_played.proofs.PathLemmas.{IsReadyNext, WaitsAfter, commits_along, ready_next, told_along, waits_along}
 use Rattle.law_played.proofs.StageLemmas.{commits_more, told_stays, vsync_at}
-use Rattle.law_played.proofs.StepLemmas.{at_end, each_with}
-use Rattle.law_played.specs.Commits.{WasReady, commit_shown, is_written, seen_by}
+use Rattle.law_played.specs.Commits.{commit_shown, is_written, seen_by}
 use Rattle.law_played.specs.Framing.{framed_arrival, framed_buffer}
 use Rattle.law_played.specs.Holds.{uncommitted}
 use Rattle.law_played.specs.Plays.{Comes, GoesOnWith, IsPlay, Playing, TakesTransition, first_playing, goes, stays}
 use Rattle.law_played.specs.Played.{vsyncs_told}
-use Rattle.law_played.specs.Progress.{AreInOrder, AreWrittenToo, IsOfArrival, released_by}
-use Rattle.law_played.specs.Runs.{final_values, rising_actors, written_in}
-use Rattle.law_played.specs.RunStates.{DecidesNow, RunState, Transition, actor_transition, after_step, after_vsync, arrival_by, asked_by, at_now, done_now, first_state, idle, release_asked, report_of, reports_if, reports_of, round_now, script_transition, step_transition, waits_now, with_list}
-use Rattle.law_played.specs.Stages.{VsyncAt, arrival_at, bare_round, begun, commits_from, no_arrival, round_after, round_at_end, told_from, told_of}
+use Rattle.law_played.specs.Progress.{AreInOrder, IsOfArrival, released_by}
+use Rattle.law_played.specs.Runs.{final_values, written_in}
+use Rattle.law_played.specs.RunStates.{DecidesNow, RunState, Transition, actor_transition, after_step, after_vsync, arrival_by, asked_by, at_now, done_now, first_state, idle, release_asked, report_of, reports_if, round_now, script_transition, step_transition, waits_now, with_list}
+use Rattle.law_played.specs.Stages.{VsyncAt, arrival_at, bare_round, begun, no_arrival, round_after, round_at_end, told_from, told_of}
 use Rattle.law_played.specs.Stuck.{holdings_at_end, next_step}
 use Rattle.law_played.specs.Vsyncs.{commits_in, vsyncs_in}
 use Rattle.law_waits.specs.Leaving.{LeavesNone, LeavesNoneAt}
-use Rattle.law_waits.proofs.LeavingLemmas.{IsUpTo, commits_low, none_arrived, none_more, none_written}
+use Rattle.law_waits.proofs.LeavingLemmas.{IsUpTo, commits_low, none_arrived, none_more}
 use Rattle.law_waits.proofs.LeavingVsync.{leaves_none}
 use Rattle.law_play_order.proofs.PlayOrder.{reports_along}
 use Rattle.law_play_order.proofs.Signals.{NamesKnown, saw_all}
@@ -62,39 +54,22 @@ use Rattle.law_play_order.proofs.Turns.{SendsOne, answered_next, same_trace, sen
 pub record HasLeftNone (scene : SceneValue) (state : RunState) : Type 0 where
   pub order : AreInOrder state.arrivals (length state.arrivals) (commits_in state.reports)
   pub knows : (actor : ℕ) → All (NamesKnown scene) (state.run.trace actor)
-  pub none : LeavesNone (written_in scene state.run) state.arrivals (told_of scene state.arrivals state.reports)
+  pub none : LeavesNone state.arrivals (told_of scene state.arrivals state.reports)
 
 -- a trace stays, or has one more done step
 abbrev GrowsBy : Done → List Done → List Done → Type 0
 GrowsBy done trace later = (later ≡ trace) ⊎ (later ≡ trace ++ done ∷ [])
 
--- then what is written stays written
-written_grows : (scene : SceneValue) (run later : Run) (done : Done) → ((actor : ℕ) → GrowsBy done (run.trace actor) (later.trace actor)) → AreWrittenToo (written_in scene run) (written_in scene later)
-written_grows scene run later done on frame is =
-    let is_it : written.FrameNumber → Bool = λ w. (w.0.0 == frame.0.0) && (w.1 == frame.1.frame) in
-    let wrote : Run → ActorScript → List written.FrameNumber = λ r script. written.written_in (r.trace script.number) in
-    let found = one_passes is_it (written_in scene run) is in
-    let at = joined_has (wrote run) (rising_actors scene) found.0 found.1 in
-    any_passes is_it (written_in scene later) found.0 (has_joined (wrote later) (rising_actors scene) at.0 found.0 at.1 (kept at.0.number found.0 at.2 (on at.0.number))) found.2
-  where
-    kept : (actor : ℕ) (w : written.FrameNumber) → Contains (written.written_in (run.trace actor)) w → GrowsBy done (run.trace actor) (later.trace actor) → Contains (written.written_in (later.trace actor)) w
-    kept actor w there (inl same) = subst (λ (trace : List Done). Contains (written.written_in trace) w) (sym same) there
-    kept actor w there (inr more) =
-        subst (λ (trace : List Done). Contains (written.written_in trace) w) (sym more)
-        (subst (λ (ws : List written.FrameNumber). Contains ws w) (sym (each_with written.written_at (run.trace actor) done))
-        (Contains-append_left (written.written_in (run.trace actor)) (written.written_at (at_end (run.trace actor) done)) w there))
-
 -- a step was done, and nothing or one transaction arrived
 module _ (scene : SceneValue) (state next : RunState) (more : List (Arrival FrameOf)) (arrived : next.arrivals ≡ state.arrivals ++ more) (rises : IsRisingFrom (length state.arrivals) more (length next.arrivals))
-    (written_too : AreWrittenToo (written_in scene state.run) (written_in scene next.run)) (reports : next.reports ≡ state.reports) (has : HasLeftNone scene state) where
+    (reports : next.reports ≡ state.reports) (has : HasLeftNone scene state) where
   low : All (IsUpTo (length state.arrivals)) (commits_in state.reports)
   low = commits_low state.arrivals (length state.arrivals) (commits_in state.reports) has.order.rising has.order.of_arrivals
 
-  none_on : LeavesNone (written_in scene next.run) (state.arrivals ++ more) (told_of scene (state.arrivals ++ more) state.reports)
+  none_on : LeavesNone (state.arrivals ++ more) (told_of scene (state.arrivals ++ more) state.reports)
   none_on =
-      none_written (written_in scene state.run) (written_in scene next.run) (state.arrivals ++ more) [] (told_of scene (state.arrivals ++ more) state.reports) written_too
-      (subst (LeavesNone (written_in scene state.run) (state.arrivals ++ more)) (sym (told_stays state.arrivals more (bare_round scene) state.reports has.order.of_arrivals))
-      (none_arrived state.arrivals more (length state.arrivals) (length next.arrivals) rises (written_in scene state.run) (bare_round scene) [] state.reports (All-nil (IsUpTo (length state.arrivals))) low has.none))
+      subst (LeavesNone (state.arrivals ++ more)) (sym (told_stays state.arrivals more (bare_round scene) state.reports has.order.of_arrivals))
+      (none_arrived state.arrivals more (length state.arrivals) (length next.arrivals) rises (bare_round scene) [] state.reports (All-nil (IsUpTo (length state.arrivals))) low has.none)
 
   step_leaves : ((actor : ℕ) → All (NamesKnown scene) (next.run.trace actor)) → HasLeftNone scene next
   step_leaves knows = record {
@@ -102,8 +77,8 @@ module _ (scene : SceneValue) (state next : RunState) (more : List (Arrival Fram
         (subst (λ (rs : List VsyncRecords). AreInOrder (state.arrivals ++ more) (length next.arrivals) (commits_in rs)) (sym reports)
         (order_more state.arrivals more (length state.arrivals) (length next.arrivals) (commits_in state.reports) has.order rises));
     knows = knows;
-    none = subst (λ (xs : List (Arrival FrameOf)). LeavesNone (written_in scene next.run) xs (told_of scene xs next.reports)) (sym arrived)
-        (subst (λ (rs : List VsyncRecords). LeavesNone (written_in scene next.run) (state.arrivals ++ more) (told_of scene (state.arrivals ++ more) rs)) (sym reports) none_on);
+    none = subst (λ (xs : List (Arrival FrameOf)). LeavesNone xs (told_of scene xs next.reports)) (sym arrived)
+        (subst (λ (rs : List VsyncRecords). LeavesNone (state.arrivals ++ more) (told_of scene (state.arrivals ++ more) rs)) (sym reports) none_on);
   }
 
 -- the step of an actor
@@ -158,13 +133,13 @@ module _ (scene : SceneValue) (state : RunState) (script : ActorScript) (s : Ste
   leaves_by (inl nothing) =
       let all_arrived : next_state.arrivals ≡ state.arrivals ++ [] = arrivals_are ∙ ap (λ (xs : List SentStep). state.arrivals ++ map (arrival_by script.number) xs) nothing in
       let long : length next_state.arrivals ≡ length state.arrivals = ap length (all_arrived ∙ append-nil state.arrivals) in
-      step_leaves scene state next_state [] all_arrived (omega (arith, long)) (written_grows scene state.run next_state.run done_here grows) reports_are has knows_then
+      step_leaves scene state next_state [] all_arrived (omega (arith, long)) reports_are has knows_then
   leaves_by (inr one) =
       let arrival = arrival_by script.number one.one in
       let all_arrived : next_state.arrivals ≡ state.arrivals ++ arrival ∷ [] = arrivals_are ∙ ap (λ (xs : List SentStep). state.arrivals ++ map (arrival_by script.number) xs) one.is in
       let long : length next_state.arrivals ≡ length state.arrivals + 1 = ap length all_arrived ∙ length-append state.arrivals (arrival ∷ []) in
       let number = one.numbered in
-      step_leaves scene state next_state (arrival ∷ []) all_arrived (omega (arith, number), omega (arith, number, long)) (written_grows scene state.run next_state.run done_here grows) reports_are has knows_then
+      step_leaves scene state next_state (arrival ∷ []) all_arrived (omega (arith, number), omega (arith, number, long)) reports_are has knows_then
 
   pub step_keeps : HasLeftNone scene (after_step scene state script (done_now scene state script s)).state
   unfolding done_now next_state done_here sent_here
@@ -233,26 +208,6 @@ module _ (looked : List written.FrameNumber) (report : VsyncRecords) (arrivals :
       ends_along (committed round a) (without_first (is_of a.txn.token) pending) end later (all_left Found (is_of a.txn.token) pending found) leads.1
       ∙ (λ i. from (round_after arrivals (committed round (sym same i)) (map commit_shown (told_along (committed (from round pending) a) later))) end.pending)
 
-  none_is : (o : Option Hold) → is_none o ≡ true → o ≡ None
-  none_is None e = refl
-  none_is (Some h) e = absurd (true≢false (sym e))
-
-  -- each was ready at its place
-  ready_along : (round : Round FrameOf) (pending : List (Arrival FrameOf)) (end : Round FrameOf) (taken : List (Arrival FrameOf)) → All Found pending
-      → Leads (is_written looked) (seen_by report) report.expected (from round pending) taken end
-      → All (WasReady looked report) (commits_from arrivals round (map commit_shown (told_along (from round pending) taken)))
-  unfolding commits_from
-  ready_along round pending end [] found leads = All-nil (WasReady looked report)
-  ready_along round pending end (a ∷ later) found leads =
-      let same = arrival_is round pending a found leads.0 in
-      let next = next_is round pending a leads.0 in
-      All-cons (WasReady looked report) (record { round = round; arrived = arrival_at arrivals a.number; commit = commit_shown (told_at (from round pending) a) })
-      (commits_from arrivals (committed round (arrival_at arrivals a.number)) (map commit_shown (told_along (committed (from round pending) a) later)))
-      (ap (λ (x : Arrival FrameOf). head_hold (is_written looked) (seen_by report) report.expected (facts_of round) x) same
-      ∙ none_is (head_hold (is_written looked) (seen_by report) report.expected (facts_of round) a) next.free)
-      (subst (λ (x : Arrival FrameOf). All (WasReady looked report) (commits_from arrivals (committed round x) (map commit_shown (told_along (committed (from round pending) a) later)))) (sym same)
-      (ready_along (committed round a) (without_first (is_of a.txn.token) pending) end later (all_left Found (is_of a.txn.token) pending found) leads.1))
-
 module _ (scene : SceneValue) (limits : IsWithinLimits scene) (state : RunState) (end : Round FrameOf) (decides : DecidesNow scene state ((state.vsyncs + 1) * scene.period) end)
     (has : HasLeftNone scene state) where
   abbrev looked : List written.FrameNumber
@@ -308,12 +263,10 @@ module _ (scene : SceneValue) (limits : IsWithinLimits scene) (state : RunState)
       ap (λ (cs : List CommitRecord). facts_of (round_after state.arrivals (begun before) cs)) made_is
       ∙ sym (ap (λ (r : Round FrameOf). facts_of r) (ends_along looked report state.arrivals (begun before) pending end decides.taken found leads))
 
-  leaves : LeavesNoneAt looked state.arrivals (commits ++ report.commits) told
-  leaves = leaves_none (λ (f : FrameOf). f) (is_written looked) looked state.arrivals (length state.arrivals) (commits ++ report.commits) told end
-      (subst (λ (cs : List CommitRecord). All (WasReady looked report) (commits_from state.arrivals (begun before) cs)) (sym made_is)
-      (ready_along looked report state.arrivals (begun before) pending end decides.taken found leads))
+  leaves : LeavesNoneAt state.arrivals (commits ++ report.commits) told
+  leaves = leaves_none (λ (f : FrameOf). f) (is_written looked) state.arrivals (length state.arrivals) (commits ++ report.commits) told end
       (subst (λ (f : FactsOf). DecidesSame (facts_of told.round) f) facts_are (record { frames = λ barrier. refl; fresh = λ layer. refl; pressed = λ layer. refl }))
-      has.order.rising waits_then.waits (λ k d within j e inside. refl) rests looked (λ frame is. is)
+      has.order.rising waits_then.waits rests
 
   abbrev pub later_state : RunState
   later_state = (after_vsync scene state end).state
@@ -324,14 +277,14 @@ module _ (scene : SceneValue) (limits : IsWithinLimits scene) (state : RunState)
   -- what is kept of reports
   record Kept (reports : List VsyncRecords) : Type 0 where
     order : AreInOrder state.arrivals (length state.arrivals) (commits_in reports)
-    none : LeavesNone looked state.arrivals (told_of scene state.arrivals reports)
+    none : LeavesNone state.arrivals (told_of scene state.arrivals reports)
 
   kept : (cs : List CommitRecord) → Kept (state.reports ++ reports_if report cs)
   kept [] = subst Kept (sym (append-nil state.reports)) (record { order = has.order; none = has.none })
   kept (c ∷ cs) = record {
     order = subst (AreInOrder state.arrivals (length state.arrivals)) (sym (commits_more state.reports report)) waits_then.order;
-    none = none_more looked state.arrivals (bare_round scene) [] state.reports report has.none
-        (subst (λ (cs : List CommitRecord). LeavesNoneAt looked state.arrivals cs told) (sym (commits_more state.reports report)) leaves);
+    none = none_more state.arrivals (bare_round scene) [] state.reports report has.none
+        (subst (λ (cs : List CommitRecord). LeavesNoneAt state.arrivals cs told) (sym (commits_more state.reports report)) leaves);
   }
 
   pub vsync_keeps : HasLeftNone scene later_state
@@ -340,8 +293,7 @@ module _ (scene : SceneValue) (limits : IsWithinLimits scene) (state : RunState)
       record {
         order = keeps.order;
         knows = λ actor. subst (λ (trace : ℕ → List Done). All (NamesKnown scene) (trace actor)) (sym trace_stays) (has.knows actor);
-        none = subst (λ (trace : ℕ → List Done). LeavesNone (flat_map (λ (script : ActorScript). written.written_in (trace script.number)) (rising_actors scene)) state.arrivals
-            (told_of scene state.arrivals (state.reports ++ reports_of scene state end))) (sym trace_stays) keeps.none;
+        none = keeps.none;
       }
 
 transition_keeps : (scene : SceneValue) (limits : IsWithinLimits scene) (pick : ℕ) (state : RunState) (transition : Transition) → TakesTransition scene pick state transition → HasLeftNone scene state
@@ -369,9 +321,9 @@ comes_on scene limits playing _ has stays = has
 comes_on scene limits playing end has (goes {next = next} step later) = comes_on scene limits next end (goes_on scene limits playing next playing.left playing.before has step) later
 
 pub play_leaves_none : (scene : SceneValue) (events : List Event) (state : RunState) → IsWithinLimits scene → IsPlay scene events state
-    → LeavesNone (written_in scene state.run) state.arrivals (vsyncs_told scene state.arrivals events)
+    → LeavesNone state.arrivals (vsyncs_told scene state.arrivals events)
 play_leaves_none scene events state limits play =
     let has = comes_on scene limits (first_playing scene) play.playing (begins scene) play.begun in
     let shown : play.playing.state.reports ≡ vsyncs_in events = sym (reports_along scene play.playing play.begun) ∙ ap vsyncs_in play.shows in
-    subst (λ (s : RunState). LeavesNone (written_in scene s.run) s.arrivals (vsyncs_told scene s.arrivals events)) play.ends
-    (subst (λ (rs : List VsyncRecords). LeavesNone (written_in scene play.playing.state.run) play.playing.state.arrivals (told_of scene play.playing.state.arrivals rs)) shown has.none)
+    subst (λ (s : RunState). LeavesNone s.arrivals (vsyncs_told scene s.arrivals events)) play.ends
+    (subst (λ (rs : List VsyncRecords). LeavesNone play.playing.state.arrivals (told_of scene play.playing.state.arrivals rs)) shown has.none)

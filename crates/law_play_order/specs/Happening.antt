@@ -4,7 +4,6 @@ use Rattle.law_order.specs.Order.{Happened, InOneOrder}
 use Rattle.law_played.specs.sf_record.declared.record.Record.{Record}
 use Rattle.law_played.specs.sf_script_scene.Scene.{SceneValue}
 use Rattle.law_played.specs.Played.{PlayedWhere, Shows, vsyncs_told}
-use Rattle.law_played.specs.Runs.{written_in}
 use Rattle.law_played.specs.Vsyncs.{vsyncs_in}
 use Rattle.law_waits.specs.Leaving.{LeavesNone}
 
@@ -17,4 +16,4 @@ happened_in shows = record { histories = shows.histories; arrived = shows.arrive
 pub record HappenedInOrder (tells : Bool) (scene : SceneValue) (records : List Record) : Type 0 where
   pub played : PlayedWhere tells scene records
   pub order : InOneOrder tells (happened_in played.shows)
-  pub none : LeavesNone (written_in scene played.run) played.arrivals (vsyncs_told scene played.arrivals played.shows.events)
+  pub none : LeavesNone played.arrivals (vsyncs_told scene played.arrivals played.shows.events)

@@ -12,7 +12,6 @@ ghost use Rattle.law_played.specs.Arrivals.{entry_of};
 ghost use Rattle.law_played.specs.Histories.{history_shown, rising_queues};
 ghost use Rattle.law_played.specs.Played.{Fits, Shows, records_of, vsyncs_told};
 ghost use Rattle.law_played.specs.Plays.{IsPlay};
-ghost use Rattle.law_played.specs.Runs.{written_in};
 ghost use Rattle.law_played.specs.Vsyncs.{vsyncs_in};
 ghost use Rattle.law_played.specs.RunStates.{RunState};
 ghost use Rattle.law_waits.specs.Leaving.{LeavesNone};
@@ -25,11 +24,10 @@ pub fn a_play_is_in_one_order()
         → InOneOrder true (record { histories = map (history_shown state.run) (rising_queues scene); arrived = map entry_of state.arrivals; vsyncs = vsyncs_in events }) }
 {}
 
-/// No vsync of a play passes over an arrival: what it leaves behind its commits was held at its end,
-/// by what was written and signalled so far.
+/// No vsync of a play passes over an arrival: what it leaves behind its commits was held at its end.
 pub fn a_play_passes_nobody_over()
     ensures { (scene : SceneValue) (events : List EventValue) (state : RunState) → IsWithinLimits scene → IsPlay scene events state
-        → LeavesNone (written_in scene state.run) state.arrivals (vsyncs_told scene state.arrivals events) }
+        → LeavesNone state.arrivals (vsyncs_told scene state.arrivals events) }
 {}
 
 /// So what shows a play, and fits its run, happened in order.

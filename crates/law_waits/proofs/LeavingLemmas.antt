@@ -1,4 +1,4 @@
--- Nobody is passed over still, where more is written, where more arrives, and by one vsync more.
+-- Nobody is passed over still, where more arrives, and by one vsync more.
 use Rattle.std.proofs.Common.{◌≡◌, ℕ, ◌<◌, ◌≤◌, ◌==◌, ◌&&◌, Bool, true, false, List, [], ◌∷◌, ◌++◌, filter, Option, Some, None, refl, ap, sym, subst, ◌∙◌, true≢false, inl, inr, arith}
 use Rattle.std.specs.Prelude.{All, cond, is_some, nat_lt, not}
 use Rattle.std.specs.List.{find, flat_map}
@@ -8,7 +8,6 @@ use Rattle.std.proofs.lemmas.List.{append-nil, append_assoc}
 use Rattle.std.proofs.lemmas.List.Elements.{All-append, All-cons, All-head, All-nil, All-tail, All-weaker, filter-append}
 use Rattle.std.proofs.lemmas.List.Folds.{find-append, list_any_none}
 use Rattle.law_played.specs.sf_actor.Names.{FrameOf}
-use Rattle.law_played.specs.sf_actor.Written.{FrameNumber}
 use Rattle.law_played.specs.sf_commit.Rounds.{Round}
 use Rattle.law_played.specs.sf_record.declared.event.VsyncRecords.{VsyncRecords}
 use Rattle.law_played.specs.sf_record.declared.record.CommitRecord.{CommitRecord}
@@ -16,19 +15,10 @@ use Rattle.law_played.specs.sf_token.Pending.{Arrival, IsRisingFrom, has_number,
 use Rattle.law_played.proofs.OrderLemmas.{above, below, found_has, found_passes, kept_whole}
 use Rattle.law_played.proofs.StageLemmas.{vsync_at}
 use Rattle.law_played.specs.Holds.{is_head, is_uncommitted, uncommitted}
-use Rattle.law_played.specs.Progress.{AreWrittenToo, IsOfArrival}
-use Rattle.law_played.specs.Stages.{VsyncAt, round_at_end, told_from}
+use Rattle.law_played.specs.Progress.{IsOfArrival}
+use Rattle.law_played.specs.Stages.{round_at_end, told_from}
 use Rattle.law_played.specs.Vsyncs.{commits_in, commits_of_vsync}
 use Rattle.law_waits.specs.Leaving.{LeavesNoneAt, LeavesNoneFrom, WaitsAtEnd, greatest_arrival, is_behind, left_behind}
-
--- where more is written
-pub none_written : (written others : List FrameNumber) (arrivals : List (Arrival FrameOf)) (before : List CommitRecord) (told : List VsyncAt) → AreWrittenToo written others
-    → LeavesNoneFrom written arrivals before told → LeavesNoneFrom others arrivals before told
-none_written written others arrivals before [] more none = tt
-none_written written others arrivals before (t ∷ later) more none = (
-  record { looked = none.0.looked; are_written = λ frame is. more frame (none.0.are_written frame is); ready = none.0.ready; waits = none.0.waits },
-  none_written written others arrivals (before ++ t.vsync.commits) later more none.1,
-)
 
 -- of what is kept, where two tests agree or none passes
 agree : {X : Type 0} (p q : X → Bool) (xs : List X) → All (λ x. p x ≡ q x) xs → filter p xs ≡ filter q xs
@@ -131,33 +121,28 @@ module _ (arrivals more : List (Arrival FrameOf)) (last end : ℕ) (rises : IsRi
   back_all P (x ∷ xs) ys all = back_all P xs ys (All-tail P x (xs ++ ys) all)
 
   -- where more arrives; what is told of the vsyncs is still that of the arrivals before
-  pub none_arrived : (written : List FrameNumber) (round : Round FrameOf) (before : List CommitRecord) (vsyncs : List VsyncRecords) → All (IsUpTo last) before → All (IsUpTo last) (commits_in vsyncs)
-      → LeavesNoneFrom written arrivals before (told_from arrivals round vsyncs) → LeavesNoneFrom written (arrivals ++ more) before (told_from arrivals round vsyncs)
+  pub none_arrived : (round : Round FrameOf) (before : List CommitRecord) (vsyncs : List VsyncRecords) → All (IsUpTo last) before → All (IsUpTo last) (commits_in vsyncs)
+      → LeavesNoneFrom arrivals before (told_from arrivals round vsyncs) → LeavesNoneFrom (arrivals ++ more) before (told_from arrivals round vsyncs)
   unfolding told_from commits_in
-  none_arrived written round before [] low rest none = tt
-  none_arrived written round before (v ∷ later) low rest none =
+  none_arrived round before [] low rest none = tt
+  none_arrived round before (v ∷ later) low rest none =
       let low_here = All-append (IsUpTo last) before v.commits low (front_all (IsUpTo last) v.commits (flat_map commits_of_vsync later) rest) in
       let at = vsync_at arrivals round v in (
-        record {
-          looked = none.0.looked;
-          are_written = none.0.are_written;
-          ready = none.0.ready;
-          waits = subst (All (WaitsAtEnd none.0.looked at)) (sym (behind_same (before ++ v.commits) low_here)) none.0.waits;
-        },
-        none_arrived written at.round (before ++ v.commits) later low_here (back_all (IsUpTo last) v.commits (flat_map commits_of_vsync later) rest) none.1,
+        subst (All (WaitsAtEnd at)) (sym (behind_same (before ++ v.commits) low_here)) none.0,
+        none_arrived at.round (before ++ v.commits) later low_here (back_all (IsUpTo last) v.commits (flat_map commits_of_vsync later) rest) none.1,
       )
 
 -- by one vsync more
-pub none_more : (written : List FrameNumber) (arrivals : List (Arrival FrameOf)) (round : Round FrameOf) (before : List CommitRecord) (vsyncs : List VsyncRecords) (v : VsyncRecords)
-    → LeavesNoneFrom written arrivals before (told_from arrivals round vsyncs)
-    → LeavesNoneAt written arrivals (before ++ commits_in (vsyncs ++ v ∷ [])) (vsync_at arrivals (round_at_end round (told_from arrivals round vsyncs)) v)
-    → LeavesNoneFrom written arrivals before (told_from arrivals round (vsyncs ++ v ∷ []))
+pub none_more : (arrivals : List (Arrival FrameOf)) (round : Round FrameOf) (before : List CommitRecord) (vsyncs : List VsyncRecords) (v : VsyncRecords)
+    → LeavesNoneFrom arrivals before (told_from arrivals round vsyncs)
+    → LeavesNoneAt arrivals (before ++ commits_in (vsyncs ++ v ∷ [])) (vsync_at arrivals (round_at_end round (told_from arrivals round vsyncs)) v)
+    → LeavesNoneFrom arrivals before (told_from arrivals round (vsyncs ++ v ∷ []))
 unfolding told_from round_at_end commits_in
-none_more written arrivals round before [] v none at =
-    (subst (λ (cs : List CommitRecord). LeavesNoneAt written arrivals (before ++ cs) (vsync_at arrivals round v)) (append-nil v.commits) at, tt)
-none_more written arrivals round before (first ∷ later) v none at = (
+none_more arrivals round before [] v none at =
+    (subst (λ (cs : List CommitRecord). LeavesNoneAt arrivals (before ++ cs) (vsync_at arrivals round v)) (append-nil v.commits) at, tt)
+none_more arrivals round before (first ∷ later) v none at = (
   none.0,
-  none_more written arrivals (vsync_at arrivals round first).round (before ++ first.commits) later v none.1
-      (subst (λ (cs : List CommitRecord). LeavesNoneAt written arrivals cs (vsync_at arrivals (round_at_end (vsync_at arrivals round first).round (told_from arrivals (vsync_at arrivals round first).round later)) v))
+  none_more arrivals (vsync_at arrivals round first).round (before ++ first.commits) later v none.1
+      (subst (λ (cs : List CommitRecord). LeavesNoneAt arrivals cs (vsync_at arrivals (round_at_end (vsync_at arrivals round first).round (told_from arrivals (vsync_at arrivals round first).round later)) v))
       (sym (append_assoc before first.commits (commits_in (later ++ v ∷ [])))) at),
 )

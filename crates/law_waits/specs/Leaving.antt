@@ -1,14 +1,12 @@
 -- Nobody is passed over: what a vsync commits leaves nothing behind it that could commit.
-use Rattle.std.specs.Prelude.{◌≢◌, ℕ, ◌&&◌, nat_lt, max, Bool, List, [], ◌∷◌, ◌++◌, All, filter, None}
+use Rattle.std.specs.Prelude.{◌≢◌, ℕ, ◌&&◌, nat_lt, max, Bool, false, List, [], ◌∷◌, ◌++◌, All, filter, None}
 use Rattle.law_played.specs.sf_commit.Rounds.{facts_of}
 use Rattle.law_played.specs.sf_commit_next.Heads.{head_hold}
 use Rattle.law_played.specs.sf_token.Pending.{Arrival}
 use Rattle.law_played.specs.sf_actor.Names.{FrameOf}
-use Rattle.law_played.specs.sf_actor.Written.{FrameNumber}
 use Rattle.law_played.specs.sf_record.declared.record.CommitRecord.{CommitRecord}
-use Rattle.law_played.specs.Commits.{WasReady, is_written, seen_by}
+use Rattle.law_played.specs.Commits.{seen_by}
 use Rattle.law_played.specs.Holds.{is_head, uncommitted}
-use Rattle.law_played.specs.Progress.{AreWrittenToo}
 use Rattle.law_played.specs.Stages.{VsyncAt}
 
 -- the greatest arrival that commits commit, 0 where there is none
@@ -24,25 +22,25 @@ is_behind left commits arrived = is_head left arrived && nat_lt arrived.number (
 abbrev pub left_behind : List (Arrival FrameOf) → List CommitRecord → List (Arrival FrameOf)
 left_behind arrivals commits = filter (is_behind (uncommitted arrivals commits) commits) (uncommitted arrivals commits)
 
--- something holds an arrival at the end of a vsync that saw these frames as written
-abbrev pub WaitsAtEnd : List FrameNumber → VsyncAt → Arrival FrameOf → Type 0
-WaitsAtEnd looked told arrived = head_hold (is_written looked) (seen_by told.vsync) told.vsync.expected (facts_of told.round) arrived ≢ None
+-- no write counts as ended
+abbrev pub none_ended : FrameOf → Bool
+none_ended frame = false
 
--- A vsync, with the commits up to its end. Of the frames that are written it saw some, by which its commits were ready; and each
--- arrival that these leave behind waits at its end.
-pub record LeavesNoneAt (written : List FrameNumber) (arrivals : List (Arrival FrameOf)) (commits : List CommitRecord) (told : VsyncAt) : Type 0 where
-  pub looked : List FrameNumber
-  pub are_written : AreWrittenToo looked written
-  pub ready : All (WasReady looked told.vsync) told.commits
-  pub waits : All (WaitsAtEnd looked told) (left_behind arrivals commits)
+-- Something holds an arrival at the end of a vsync. No record says which writes the vsync saw as ended: one with a buffer may wait
+-- for its write.
+abbrev pub WaitsAtEnd : VsyncAt → Arrival FrameOf → Type 0
+WaitsAtEnd told arrived = head_hold none_ended (seen_by told.vsync) told.vsync.expected (facts_of told.round) arrived ≢ None
+
+-- each arrival that the commits up to the end of a vsync leave behind waits at its end
+abbrev pub LeavesNoneAt : List (Arrival FrameOf) → List CommitRecord → VsyncAt → Type 0
+LeavesNoneAt arrivals commits told = All (WaitsAtEnd told) (left_behind arrivals commits)
 
 -- so it is of each vsync, behind these commits
-abbrev pub LeavesNoneFrom : List FrameNumber → List (Arrival FrameOf) → List CommitRecord → List VsyncAt → Type 0
-LeavesNoneFrom written arrivals before [] = Unit {0}
-LeavesNoneFrom written arrivals before (told ∷ later) =
-    LeavesNoneAt written arrivals (before ++ told.vsync.commits) told × LeavesNoneFrom written arrivals (before ++ told.vsync.commits) later
+abbrev pub LeavesNoneFrom : List (Arrival FrameOf) → List CommitRecord → List VsyncAt → Type 0
+LeavesNoneFrom arrivals before [] = Unit {0}
+LeavesNoneFrom arrivals before (told ∷ later) = LeavesNoneAt arrivals (before ++ told.vsync.commits) told × LeavesNoneFrom arrivals (before ++ told.vsync.commits) later
 
 -- Nobody is passed over. At the end of each vsync, each arrival before the greatest one that is committed so far is committed, is behind
--- another one of its token, or waits for its time, a fence, a write, a barrier or pressure, as that vsync saw.
-abbrev pub LeavesNone : List FrameNumber → List (Arrival FrameOf) → List VsyncAt → Type 0
-LeavesNone written arrivals told = LeavesNoneFrom written arrivals [] told
+-- another one of its token, has a buffer, or waits for its time or a barrier.
+abbrev pub LeavesNone : List (Arrival FrameOf) → List VsyncAt → Type 0
+LeavesNone arrivals told = LeavesNoneFrom arrivals [] told

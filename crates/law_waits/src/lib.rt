@@ -7,25 +7,24 @@ ghost use Rattle.law_played.specs.sf_commit.Rounds.{facts_of};
 ghost use Rattle.law_played.specs.sf_commit_next.Heads.{head_hold};
 ghost use Rattle.law_played.specs.sf_token.Pending.{Arrival};
 ghost use Rattle.law_played.specs.sf_actor.Names.{FrameOf};
-ghost use Rattle.law_played.specs.sf_actor.Written.{FrameNumber};
-ghost use Rattle.law_played.specs.Commits.{is_written, seen_by};
+ghost use Rattle.law_played.specs.Commits.{seen_by};
 ghost use Rattle.law_played.specs.Stages.{VsyncAt};
-ghost use Rattle.law_waits.specs.Leaving.{LeavesNone, LeavesNoneAt, left_behind};
+ghost use Rattle.law_waits.specs.Leaving.{LeavesNone, LeavesNoneAt, left_behind, none_ended};
 ghost use Rattle.law_waits.specs.PassedOver.{both_arrived, none_left, passed_over};
 ghost use Rattle.law_played.specs.sf_record.declared.record.CommitRecord.{CommitRecord};
 
-/// A vsync does not leave behind an arrival that nothing holds, whatever frames it saw as written. So a
+/// A vsync does not leave behind an arrival that nothing holds, whatever writes it saw as ended. So a
 /// later arrival does not commit before an earlier one of another token that could commit, as in the
 /// example.
 pub fn nobody_is_passed_over()
-    ensures none { (written : List FrameNumber) (arrivals : List (Arrival FrameOf)) (commits : List CommitRecord) (told : VsyncAt) (arrived : Arrival FrameOf)
+    ensures none { (arrivals : List (Arrival FrameOf)) (commits : List CommitRecord) (told : VsyncAt) (arrived : Arrival FrameOf)
         → Contains (left_behind arrivals commits) arrived
-        → ((looked : List FrameNumber) → head_hold (is_written looked) (seen_by told.vsync) told.vsync.expected (facts_of told.round) arrived ≡ None)
-        → LeavesNoneAt written arrivals commits told → ⊥ }
-    ensures example { (written : List FrameNumber) → LeavesNone written both_arrived passed_over → ⊥ }
+        → head_hold none_ended (seen_by told.vsync) told.vsync.expected (facts_of told.round) arrived ≡ None
+        → LeavesNoneAt arrivals commits told → ⊥ }
+    ensures example { LeavesNone both_arrived passed_over → ⊥ }
 {}
 
 /// Arrivals that commit in their order leave nobody behind.
 pub fn what_commits_in_order_leaves_none()
-    ensures { (written : List FrameNumber) → LeavesNone written both_arrived none_left }
+    ensures { LeavesNone both_arrived none_left }
 {}

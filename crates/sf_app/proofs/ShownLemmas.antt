@@ -80,4 +80,4 @@ run_means run.Play summary tells scene a b unsummed told h =
 run_means run.Gen summary tells scene a b unsummed told h =
     record { records = h.records; means = in_order_told tells scene h.records (told refl) h.means; written = shown_bytes summary h.records a b h.written }
 run_means run.Live summary tells scene a b unsummed told h =
-    record { records = h.records; means = h.means.played; written = subst (λ (s : Bool). Appends a b (bytes_shown s h.records)) (sym (unsummed refl)) h.written.bytes }
+    record { records = h.records; means = h.means; written = subst (λ (s : Bool). Appends a b (bytes_shown s h.records)) (sym (unsummed refl)) h.written.bytes }

@@ -1,4 +1,4 @@
--- Who calls a queue in a played run, told from its records alone.
+-- Who calls a queue in a played run, by its records alone.
 use Rattle.std.specs.Prelude.{Bool, ◌≡◌, ◌==◌, ◌||◌, true, List, [], ◌∷◌, All}
 use Rattle.std.specs.List.{flat_map}
 use Rattle.sf_script_scene.specs.Scene.{SceneValue, has_actor}
@@ -20,7 +20,7 @@ histories_in records = flat_map history_in records
 abbrev pub IsKnown : SceneValue → HistoryEntry → Type 0
 IsKnown scene called = (called.caller == 0 || has_actor scene.actors called.caller) ≡ true
 
--- the histories of a played run have calls of the compositor and of the scene's actors alone, also where the scene has no actor and where no sender is told a place
+-- the histories of a played run have calls of the compositor and of the scene's actors alone, also where the scene has no actor and where no sender learns a place
 abbrev pub CallersAreKnown : Type 0
 CallersAreKnown = (tells : Bool) (scene : SceneValue) (records : List Record) → PlayedWhere tells scene records
     → All (λ (history : QueueHistory). All (IsKnown scene) history.entries) (histories_in records)

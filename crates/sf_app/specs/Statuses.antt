@@ -25,7 +25,7 @@ pub record PlayedScript (asked : Option Options) (left rest taken now : Option (
   pub run : ShowsRun options.run options.summary (tells_place options) scene taken now
 
 -- what status 0 means: what was written shows records that stand to the scene as those of a played run do, those of a play in order; in
--- it a sender is told its place, unless the words ask for a queue of arrivals
+-- it a sender learns its place, unless the words ask for a queue of arrivals
 pub record MeansScript (asked : Option Options) (left rest taken now : Option (List ℕ)) : Type 0 where
   pub options : Options
   pub right : asked ≡ Some options
@@ -86,7 +86,8 @@ module _ {S K : Type 0} (left : S → Option (List ℕ)) (reads : S → ℕ) (ta
   -- how a run ended that was asked for: what its status says, and what was read and written whatever it is
   pub record RunEnded (asked : Option Options) (status : ℕ) (source rest : S) (sink now : K) : Type 0 where
     pub played : status ≡ 0 → PlayedScript asked (left source) (left rest) (taken sink) (taken now)
-    -- only wrong words are answered by 1; they are answered so but for want of memory to read them
+    -- only wrong words are answered by 1; they are answered so but where memory runs out before
+    -- they are read
     pub usage : status ≡ 1 → asked ≡ None
     pub wrong : asked ≡ None → (status ≡ 1) ⊎ (status ≡ 5)
     pub untouched : asked ≡ None → (rest ≡ source) × (now ≡ sink)

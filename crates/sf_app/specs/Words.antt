@@ -14,7 +14,7 @@ abbrev pub is_gen : Run → Bool
 is_gen run.Gen = true
 is_gen _ = false
 
--- a sender is told the place of its transaction, unless these arrive through a queue
+-- a sender learns the place of its transaction, unless these arrive through a queue
 abbrev pub tells_place : Options → Bool
 tells_place options = not (is_queue options.intake)
 
@@ -36,6 +36,6 @@ abbrev pub IsToldBy : Bool → ℕ → Option (List ℕ) → List ℕ → Type 0
 IsToldBy true number left bytes = bytes ≡ generated number
 IsToldBy false number left bytes = left ≡ Some bytes
 
--- the script that a run is to play is known: it is generated, or the source tells its bytes
+-- the script that a run is to play is known: it is generated, or the source says what its bytes are
 abbrev pub IsTold : Options → Option (List ℕ) → List ℕ → Type 0
 IsTold options left bytes = IsToldBy (is_gen options.run) options.number left bytes

@@ -186,10 +186,12 @@ fn follow<R: Threads + Wait + Sync, S: Source, K: Sink, G: Gate + Sync>(
 /// | 2 | the bytes are no scene, or more than 1,048,576; the record SFLT was written |
 /// | 3 | the source failed; nothing is written |
 /// | 4 | the sink failed |
-/// | 5 | want of memory |
+/// | 5 | out of memory; no clause says when memory is short |
 ///
 /// Whatever the status is, what a play of a scene wrote is a prefix of the records of its play, or of
 /// the record that sums them up; a live run wrote whole records, and then at most one that is cut.
+/// What is said of bytes holds where source and sink say what theirs are.
+///
 /// A live run asks the gate before each step of an actor, and may wait for the actors' threads; a play
 /// does neither.
 pub fn run<R: Threads + Wait + Sync, S: Source, K: Sink, G: Gate + Sync>(
@@ -200,8 +202,9 @@ pub fn run<R: Threads + Wait + Sync, S: Source, K: Sink, G: Gate + Sync>(
     sink: &mut K,
     gate: &G,
 ) -> u8
-    // What is written shows records that stand to the script's scene as those of a played run do, and of a
-    // play as what happened in order; with a queue of arrivals a sender is not told its place.
+    // What is written shows records that stand to the script's scene as those of a played run do,
+    // and of a play as what happened in order; with a queue of arrivals a sender does not learn its
+    // place.
     ensures means { let asked = options_of (map string_bytes words.now) in
         result ≡ 0 → MeansScript asked (S.left source.old) (S.left source.new) (K.taken sink.old) (K.taken sink.new) }
 
@@ -209,7 +212,8 @@ pub fn run<R: Threads + Wait + Sync, S: Source, K: Sink, G: Gate + Sync>(
     ensures ended { let asked = options_of (map string_bytes words.now) in
         RunEnded S.left S.faults K.taken K.faults asked result source.old source.new sink.old sink.new }
 
-    // Right words, a script that is told, and no count of faults that rose: the run is whole, or the script refused, but for want of memory.
+    // Right words, a known script, and no count of faults that rose: the run is whole, or the
+    // script refused, unless memory runs out.
     ensures complete { (options : OptionsValue) (bytes : List ℕ) (scene : SceneValue) → options_of (map string_bytes words.now) ≡ Some options
         → IsTold options (S.left source.old) bytes → parsed_of bytes ≡ Ok scene
         → ¬ Rose (S.faults source.old) (S.faults source.new) → ¬ Rose (K.faults sink.old) (K.faults sink.new) → (result ≡ 0) ⊎ (result ≡ 5) }

@@ -1,5 +1,5 @@
-//! A play whose records are summed up in place of being written: they go into sums, of which one
-//! record is written at the end.
+//! A play whose records are summed up instead of written: they go into sums, of which one record is
+//! written at the end.
 ghost use Rattle.std.specs.Prelude.{◌≡◌, ◌≤◌, false, true, OnErr, OnOk, IsErrOf};
 ghost use Rattle.sf_io.specs.Causes.{Rose};
 ghost use Rattle.sf_record_sums.specs.sf_record.declared.encode.RunFault.TheVariants.{WriteFault};

@@ -19,7 +19,7 @@ fn is_gen(run: Run) -> bool
     }
 }
 
-/// The script that a number generates; only want of memory refuses it.
+/// The script that a number generates; its only error is out of memory.
 fn generated(alloc: Global, number: u64) -> Result<Vec<u8>, ReadFault>
     ensures text { IfOk result (λ text. text.items ≡ generated number) }
     ensures short { ¬ IsErrOf result ReadFault.TooLong }

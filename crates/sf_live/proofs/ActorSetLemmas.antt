@@ -26,10 +26,10 @@ use Rattle.sf_live_compositor.specs.sf_live_threads.declared.all_returned.Return
 use Rattle.sf_live_compositor.specs.sf_live_threads.declared.gates.Gates.{Gates}
 use Rattle.sf_live_compositor.specs.sf_live_threads.Walks.{Moment}
 use Rattle.sf_live_compositor.specs.Vsyncs.{Sitting}
-use Rattle.law_joins.specs.law_threads.Joining.{actor_at, of_at}
-use Rattle.law_joins.specs.Joined.{IsJoined, actor_set_joined}
-use Rattle.law_joins.proofs.Ends.{all_play}
-use Rattle.law_joins.proofs.PlayerAtJoin.{actors, kept_as}
+use Rattle.law_live_order.specs.law_joins.law_threads.Joining.{actor_at, of_at}
+use Rattle.law_live_order.specs.law_joins.Joined.{IsJoined, actor_set_joined}
+use Rattle.law_live_order.proofs.law_joins_lemmas.Ends.{all_play}
+use Rattle.law_live_order.proofs.law_joins_lemmas.PlayerAtJoin.{actors, kept_as}
 use Rattle.sf_live.specs.inner.Threads.{returned_actor, returned_gates}
 
 module _ {B : Type 0} (table : TableId) (pictures : ℕ → Picture) (home : DeskHome) (view : DeskView B) where

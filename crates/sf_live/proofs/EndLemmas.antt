@@ -1,10 +1,12 @@
 -- What is written at the end of a run: the replies to all steps, and the closing records.
 use Rattle.std.proofs.Common.{◌≡◌, ℕ, ◌+◌, ◌<◌, List, [], ◌∷◌, ◌++◌, length, get_or, take, drop, map, Option, Result, Ok, Err, refl, ap, ◌∙◌, sym, subst, append_assoc, OnErr, OnOk}
-use Rattle.std.specs.Prelude.{Contains}
+use Rattle.std.specs.Prelude.{All, Contains}
 use Rattle.std.specs.List.{flat_map}
 use Rattle.std.proofs.lemmas.List.{append-nil, drop_more, take-append-drop, take_more}
 use Rattle.std.proofs.lemmas.List.Concat.{flat_map-append}
 use Rattle.atomic_table.specs.Seated.{TableId}
+use Rattle.law_rounds.specs.law_order.Order.{InOneOrder}
+use Rattle.law_rounds.specs.Rounds.{IsInOrder, happened_so}
 use Rattle.sf_picture.specs.declared.picture.Picture.{Picture}
 use Rattle.sf_script_scene.specs.Scene.{SceneValue}
 use Rattle.sf_script_scene.specs.declared.step.ActorScript.{ActorScript}
@@ -16,8 +18,10 @@ use Rattle.sf_live_compositor.specs.sf_actor.declared.done.Done.{Done}
 use Rattle.sf_live_compositor.specs.sf_actor_steps.declared.actor.Actor.{Actor}
 use Rattle.sf_live_compositor.specs.sf_actor_set.ActorSets.{KeepAs}
 use Rattle.sf_live_compositor.specs.sf_record.Events.{closing, event_records, events_records}
+use Rattle.sf_live_compositor.specs.sf_record.Fitting.{RecordFits}
 use Rattle.sf_live_compositor.specs.sf_record.declared.encode.RunFault.{RunFault}
 use Rattle.sf_live_compositor.specs.sf_record.declared.event.Event.TheVariants as event
+use Rattle.sf_live_compositor.specs.sf_record.declared.event.VsyncRecords.{VsyncRecords}
 use Rattle.sf_live_compositor.specs.sf_record.declared.record.Record.{Record}
 use Rattle.sf_live_compositor.specs.sf_record.declared.record.Record.TheVariants as rec
 use Rattle.sf_live_compositor.specs.sf_record.declared.record.ReplyRecord.{ReplyRecord}
@@ -28,16 +32,17 @@ use Rattle.sf_live_compositor.specs.law_played.Actors.{script_of}
 use Rattle.sf_live_compositor.specs.law_played.Played.{opening, records_of, reply_events}
 use Rattle.sf_live_compositor.specs.law_played.Replies.{replies_due, reply_shown}
 use Rattle.sf_live_compositor.specs.law_played.Runs.{rising_actors}
-use Rattle.sf_live_compositor.proofs.sf_play_lemmas.Late.{played_live}
+use Rattle.sf_live_compositor.proofs.sf_play_lemmas.Late.{fits_late, same_vsyncs}
 use Rattle.sf_live_compositor.specs.sf_play.Ending.{shows_at_end, shows_late}
-use Rattle.sf_live_compositor.specs.sf_play.Players.{PlayerOf, SoFar, home_in, run_so, view_in}
+use Rattle.sf_live_compositor.specs.sf_play.Going.{EndsRun}
+use Rattle.sf_live_compositor.specs.sf_play.Players.{PlayerOf, SoFar, arrived_at, home_in, run_so, view_in}
 use Rattle.sf_live_compositor.specs.sf_play.Standing.{StandsInRun}
 use Rattle.sf_live_compositor.specs.sf_play_write.Closings.{closing_of}
 use Rattle.sf_live_compositor.specs.sf_play_write.Writing.{CutSome, Writes, WritesPart}
 use Rattle.sf_live_compositor.proofs.sf_play_write_lemmas.ClosingLemmas.{closing_is}
 use Rattle.sf_live_compositor.proofs.sf_play_write_lemmas.WritingLemmas.{cut_part, part_front, part_more, writes_more}
 use Rattle.sf_live.specs.inner.Rounds.{HasShownAll, all_reply_records, vsyncs_alone}
-use Rattle.sf_live.specs.Runs.{WroteLive}
+use Rattle.sf_live.specs.Runs.{MeansLive, WroteLive}
 use Rattle.sf_live.proofs.RoundLemmas.{records_more}
 
 -- the next piece of what is made of a list was written behind those before
@@ -112,13 +117,26 @@ module _ {B : Type 0} where
         ∙ sym (append_assoc (opening scene ∷ events_records (vsyncs_alone so.events)) (events_records (flat_map (reply_events run) (rising_actors scene))) ends)
         ∙ ap (λ (rs : List Record). (opening scene ∷ rs) ++ ends) (sym (records_more (vsyncs_alone so.events) (flat_map (reply_events run) (rising_actors scene))))
 
+    -- they mean what a run in threads means, in one order
+    means_live : EndsRun scene so player → IsInOrder (home_in player.play).tells scene so player.play → All RecordFits (records_of scene (shows_late scene so player)) → MeansLive (home_in player.play).tells scene (records_of scene (shows_late scene so player))
+    means_live ends in_order fit =
+        let run = run_so so player.play in
+        let same = same_vsyncs run scene so.events in
+        record {
+          live = record {
+            played = record { shows = shows_late scene so player; order = refl; fit = fit; run = run; arrivals = arrived_at player.play; fits = fits_late table scene so player stands ends };
+            late = ap (λ (vs : List VsyncRecords). map event.Vsync vs ++ flat_map (reply_events run) (rising_actors scene)) (sym same);
+          };
+          order = subst (λ (vs : List VsyncRecords). InOneOrder (home_in player.play).tells (record (happened_so scene so player.play) { vsyncs = vs })) (sym same) in_order.order;
+        }
+
   module _ (table : TableId) (scene : SceneValue) (a b c : Option (List ℕ)) (player : PlayerOf B) (has : HasShownAll table scene a b player) where
     -- the rest of the records was written behind all others, or a part of it
     pub live_written : (r : Result (Unit {0}) RunFault) → OnOk r (Writes b c (all_reply_records player.play.actor_set.actors ++ closing_of player)) → OnOk r (WroteLive (home_in player.play).tells scene a c)
     live_written (Ok u) rest =
         let written = subst (Writes a c) (all_records table scene has.so player has.stands)
         (writes_more a b c (opening scene ∷ events_records (vsyncs_alone has.so.events)) (all_reply_records player.play.actor_set.actors ++ closing_of player) has.written rest) in
-        record { records = records_of scene (shows_late scene has.so player); means = played_live table scene has.so player has.stands has.ends written.fits; written = written }
+        record { records = records_of scene (shows_late scene has.so player); means = means_live table scene has.so player has.stands has.ends has.in_order written.fits; written = written }
     live_written (Err e) rest = tt
 
     pub live_cut : (r : Result (Unit {0}) RunFault) → OnErr r (WritesPart b c (all_reply_records player.play.actor_set.actors ++ closing_of player)) → OnErr r (CutSome a c)

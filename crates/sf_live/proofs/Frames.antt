@@ -24,8 +24,8 @@ use Rattle.sf_live_compositor.specs.sf_play_write.Vsyncs.{records_if, told_with,
 use Rattle.sf_live_compositor.specs.sf_live_seats.declared.locks.Locks.{Locks}
 use Rattle.sf_live_compositor.specs.Sitting.{AreFound, Showing, records_shown, showing_of, showings_of}
 use Rattle.sf_live_compositor.specs.Vsyncs.{Begin, IsVsync, More, Sitting, Vsyncs}
-use Rattle.law_joins.specs.Frames.{AllFind}
-use Rattle.law_joins.specs.Logs.{reports_of, shown_of}
+use Rattle.law_live_order.specs.law_joins.Frames.{AllFind}
+use Rattle.law_live_order.specs.law_joins.Logs.{reports_of, shown_of}
 use Rattle.sf_live.proofs.RoundLemmas.{records_more}
 use Rattle.sf_live.proofs.VsyncReports.{told_is}
 

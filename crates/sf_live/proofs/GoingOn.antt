@@ -1,5 +1,5 @@
 -- A player that goes on with a run in threads has shown its vsyncs.
-use Rattle.std.proofs.Common.{◌≡◌, ℕ, List, [], ◌∷◌, map, Option, ◌∙◌, ap, refl, sym, subst}
+use Rattle.std.proofs.Common.{◌≡◌, ℕ, Bool, List, [], ◌∷◌, map, Option, ◌∙◌, ap, refl, sym, subst}
 use Rattle.atomic_table.specs.Seated.{TableId}
 use Rattle.sf_live_compositor.specs.sf_surface.Tokens.{Issued, ReadLeaseOf}
 use Rattle.sf_turns.specs.Views.{SeatView}
@@ -16,15 +16,19 @@ use Rattle.sf_live_compositor.specs.sf_record.declared.event.VsyncRecords.{Vsync
 use Rattle.sf_live_compositor.specs.law_played.Frames.{plan_of}
 use Rattle.sf_live_compositor.specs.law_played.Played.{opening}
 use Rattle.sf_live_compositor.specs.law_played.Vsyncs.{vsyncs_in}
-use Rattle.sf_live_compositor.specs.sf_play.Players.{PlayerOf, before_round}
+use Rattle.sf_live_compositor.specs.sf_play.Players.{PlayerOf, SoFar, before_round, home_in}
 use Rattle.sf_live_compositor.specs.sf_play.Standing.{StandsInRun}
 use Rattle.sf_live_compositor.specs.sf_play_write.Writing.{Writes}
 use Rattle.sf_live_compositor.proofs.sf_play_write_lemmas.WritingLemmas.{writes_more}
 use Rattle.sf_live_compositor.specs.sf_live_seats.Seats.{tells_of}
 use Rattle.sf_live_compositor.specs.sf_live_seats.declared.locks.Locks.{Locks}
-use Rattle.law_joins.specs.Frames.{AllFind}
-use Rattle.law_joins.specs.Joined.{player_joined, so_joined}
-use Rattle.law_joins.specs.Logs.{reports_of}
+use Rattle.law_rounds.specs.law_order.Order.{InOneOrder}
+use Rattle.law_rounds.specs.Rounds.{IsInOrder, happened_so}
+use Rattle.law_rounds.proofs.StandsInOrder.{so_far}
+use Rattle.law_live_order.proofs.LiveOrder.{in_one_order}
+use Rattle.law_live_order.specs.law_joins.Frames.{AllFind}
+use Rattle.law_live_order.specs.law_joins.Joined.{player_joined, so_joined}
+use Rattle.law_live_order.specs.law_joins.Logs.{reports_of}
 use Rattle.sf_live.specs.declared.threads.Joined.{Joined}
 use Rattle.sf_live_compositor.specs.sf_output_screen.declared.screens.OutputScreen.{OutputScreen}
 use Rattle.sf_live.specs.inner.Resuming.{GoesFrom, HasCome}
@@ -41,6 +45,15 @@ module _ {B : Type 0} (lease : Ghosts ReadLeaseOf SeatView ReadLeaseOf Issued) (
   module _ (find : AllFind lease table locks run.scene.period (picture_at run.scene.pictures) t.is.joins.log) (player : PlayerOf B) (is : player ≡ before_round period order joined.actor_set handler vsyncs)
       (stands : StandsInRun table run.scene (so_joined lease run.scene table run.scene.period (most_layers run.scene.version) locks run.last t.ends t.desk t.is) (player_joined run.scene t.ends t.desk run.last))
       (reports : vsyncs_in (so_joined lease run.scene table run.scene.period (most_layers run.scene.version) locks run.last t.ends t.desk t.is).events ≡ reports_of lease table locks run.scene.period run.scene t.is.joins.log) where
+    abbrev so : SoFar B
+    so = so_joined lease run.scene table run.scene.period (most_layers run.scene.version) locks run.last t.ends t.desk t.is
+
+    joined_in_order : IsInOrder t.desk.tells run.scene so (player_joined run.scene t.ends t.desk run.last).play
+    joined_in_order =
+        so_far table run.scene so (player_joined run.scene t.ends t.desk run.last) stands t.desk.tells
+        (subst (λ (tells : Bool). InOneOrder tells (happened_so run.scene so (player_joined run.scene t.ends t.desk run.last).play)) (sym t.is.joins.closes.tells)
+        (in_one_order lease run.scene table run.scene.period (most_layers run.scene.version) locks run.last t.ends t.desk t.is))
+
     pub has_shown : HasShown table run.scene (plan_of run.scene) run.timelines start run.now run.screens player
     has_shown =
         let begins = t.is.joins.begins in
@@ -48,14 +61,15 @@ module _ {B : Type 0} (lease : Ghosts ReadLeaseOf SeatView ReadLeaseOf Issued) (
         let wrote = t.shows.written (picture_at run.scene.pictures) (all_found lease table locks run.scene.period run.scene begins run.last log find) in
         let are = log_records_are lease table locks run.scene.period run.scene run.timelines goes.rising begins run.last log in
         record {
-          so = so_joined lease run.scene table run.scene.period (most_layers run.scene.version) locks run.last t.ends t.desk t.is;
-          stands = subst (StandsInRun table run.scene (so_joined lease run.scene table run.scene.period (most_layers run.scene.version) locks run.last t.ends t.desk t.is)) (sym (is ∙ same_player)) stands;
+          so = so;
+          stands = subst (StandsInRun table run.scene so) (sym (is ∙ same_player)) stands;
           planned = refl;
           rising = goes.rising;
           written = subst (λ (vs : List VsyncRecords). Writes start run.now (opening run.scene ∷ events_records (map event.Vsync vs))) (sym reports)
               (writes_more start run.before run.now (opening run.scene ∷ []) (events_records (map event.Vsync (reports_of lease table locks run.scene.period run.scene log))) goes.begun
               (subst (Writes run.before run.now) are wrote.0));
           shown = wrote.1;
+          in_order = subst (λ (p : PlayerOf B). IsInOrder (home_in p.play).tells run.scene so p.play) (sym (is ∙ same_player)) joined_in_order;
         }
 
 -- the desk that is left tells places where the locks do

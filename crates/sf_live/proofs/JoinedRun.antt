@@ -25,9 +25,9 @@ use Rattle.sf_live_compositor.specs.sf_live_threads.Meeting.{as_returned}
 use Rattle.sf_live_compositor.specs.sf_live_threads.Returns.{Returns}
 use Rattle.sf_live_compositor.proofs.sf_live_threads_lemmas.MeetLemmas.{finished_took}
 use Rattle.sf_live_compositor.specs.Sitting.{Sits}
-use Rattle.law_joins.specs.law_threads.Joining.{Joins}
-use Rattle.law_joins.specs.SeatedActors.{IsUnused, WalkedBack, actor_of_seated}
-use Rattle.law_joins.proofs.WalkingBack.{all_walked}
+use Rattle.law_live_order.specs.law_joins.law_threads.Joining.{Joins}
+use Rattle.law_live_order.specs.law_joins.SeatedActors.{IsUnused, WalkedBack, actor_of_seated}
+use Rattle.law_live_order.proofs.law_joins_lemmas.WalkingBack.{all_walked}
 use Rattle.sf_live.specs.declared.opening.Opened.{Opened}
 use Rattle.sf_live.specs.Openings.{IsOpen}
 use Rattle.sf_live.specs.inner.Threads.{AreClosedTo, HasPassedOwn, HasRun, RunOf, returned_actor}

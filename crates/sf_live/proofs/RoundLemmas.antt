@@ -29,15 +29,16 @@ use Rattle.sf_live_compositor.specs.sf_output_screen.ScreenLists.{AreShown}
 use Rattle.sf_live_compositor.specs.sf_output_screen.declared.screens.OutputScreen.{OutputScreen}
 use Rattle.sf_live_compositor.specs.sf_play.Going.{GoesOn, TellsStage}
 use Rattle.sf_live_compositor.specs.sf_play.Happening.{VsyncHappens}
-use Rattle.sf_live_compositor.specs.sf_play.Players.{PlayOf, PlayerOf, SoFar}
+use Rattle.sf_live_compositor.specs.sf_play.Players.{PlayOf, PlayerOf, SoFar, home_in}
 use Rattle.sf_live_compositor.specs.sf_play.Playing.{expected_by}
 use Rattle.sf_live_compositor.specs.sf_play.Showing.{vsync_shown as play_shown}
 use Rattle.sf_live_compositor.specs.sf_play.declared.action.Action.{Action}
 use Rattle.sf_live_compositor.specs.sf_play.declared.action.Action.TheVariants as action
-use Rattle.sf_live_compositor.specs.sf_play_write.inner.Rows.{is_end}
+use Rattle.sf_live_compositor.specs.sf_play.Actions.{is_end}
 use Rattle.sf_live_compositor.specs.sf_play_write.Vsyncs.{records_if, told_with}
 use Rattle.sf_live_compositor.specs.sf_play_write.Writing.{CutSome, Writes, WritesPart}
 use Rattle.sf_live_compositor.proofs.sf_play_write_lemmas.WritingLemmas.{cut_part, part_more, part_whole, writes_more}
+use Rattle.law_rounds.specs.Rounds.{IsInOrder}
 use Rattle.sf_live.specs.inner.Rounds.{HasShown, MayWriteAction, ShowsOn, action_written, vsyncs_alone}
 use Rattle.sf_live.proofs.VsyncReports.{told_is}
 
@@ -113,22 +114,22 @@ module _ {B : Type 0} where
   may_write table scene plan so action.End player planned goes = tt
 
   -- what there is to show after a vsync, for the handler as the player tells it
-  pub stage_told : (scene : SceneValue) (plan : Plan) (report : VsyncReport) (player : PlayerOf B) (handler : HandlerOf ReadLeaseOf) → (plan ≡ plan_of scene) × TellsStage scene report player.play → handler ≡ player.play.handler
-      → IsStage expected_by plan handler report.view report.sources
-  stage_told scene plan report player handler (planned, tells) same =
-      subst (λ (p : Plan). IsStage expected_by p handler report.view report.sources) (sym planned)
-      (subst (λ (h : HandlerOf ReadLeaseOf). IsStage expected_by (plan_of scene) h report.view report.sources) (sym same) tells.stage)
+  pub stage_told : (scene : SceneValue) (plan : Plan) (player : PlayerOf B) (handler : HandlerOf ReadLeaseOf) → (plan ≡ plan_of scene) × TellsStage scene player.play → handler ≡ player.play.handler
+      → IsStage expected_by plan handler
+  stage_told scene plan player handler (planned, tells) same =
+      subst (λ (p : Plan). IsStage expected_by p handler) (sym planned)
+      (subst (λ (h : HandlerOf ReadLeaseOf). IsStage expected_by (plan_of scene) h) (sym same) tells.stage)
 
-  pub expected_told : (scene : SceneValue) (plan : Plan) (report : VsyncReport) (player : PlayerOf B) (handler : HandlerOf ReadLeaseOf) → (plan ≡ plan_of scene) × TellsStage scene report player.play → handler ≡ player.play.handler
+  pub expected_told : (scene : SceneValue) (plan : Plan) (player : PlayerOf B) (handler : HandlerOf ReadLeaseOf) → (plan ≡ plan_of scene) × TellsStage scene player.play → handler ≡ player.play.handler
       → AreExpected expected_by (picture_at scene.pictures) handler
-  expected_told scene plan report player handler tells same = subst (AreExpected expected_by (picture_at scene.pictures)) (sym same) tells.1.expected
+  expected_told scene plan player handler tells same = subst (AreExpected expected_by (picture_at scene.pictures)) (sym same) tells.1.expected
 
   -- an action was written behind what was written before
   goes_on : (table : TableId) (scene : SceneValue) (plan : Plan) (timelines : List ℕ) (start a b : Option (List ℕ)) (before screens : List OutputScreen) (old player : PlayerOf B) (came_to : Action)
-      (has : HasShown table scene plan timelines start a before old) → GoesOn table scene has.so came_to player
+      (has : HasShown table scene plan timelines start a before old) (goes : GoesOn table scene has.so came_to player) → IsInOrder (home_in player.play).tells scene goes.later player.play
       → Writes a b (action_written (picture_at scene.pictures) plan timelines player came_to) → AreShown (picture_at scene.pictures) screens
       → HasShown table scene plan timelines start b screens player
-  goes_on table scene plan timelines start a b before screens old player came_to has goes now shown = record {
+  goes_on table scene plan timelines start a b before screens old player came_to has goes in_order now shown = record {
     so = goes.later;
     stands = goes.stands;
     planned = has.planned;
@@ -136,22 +137,23 @@ module _ {B : Type 0} where
     written = subst (Writes start b) (ap (λ (rs : List Record). opening scene ∷ rs) (action_records table scene plan timelines has.so came_to player has.planned has.rising goes))
         (writes_more start a b (opening scene ∷ events_records (vsyncs_alone has.so.events)) (action_written (picture_at scene.pictures) plan timelines player came_to) has.written now);
     shown = shown;
+    in_order = in_order;
   }
 
   pub shows_on : (table : TableId) (scene : SceneValue) (plan : Plan) (timelines : List ℕ) (start a b : Option (List ℕ)) (before screens : List OutputScreen) (old player : PlayerOf B) (came_to : Action)
-      (has : HasShown table scene plan timelines start a before old) → GoesOn table scene has.so came_to player
+      (has : HasShown table scene plan timelines start a before old) (goes : GoesOn table scene has.so came_to player) → IsInOrder (home_in player.play).tells scene goes.later player.play
       → Writes a b (action_written (picture_at scene.pictures) plan timelines player came_to) → AreShown (picture_at scene.pictures) screens
       → ShowsOn (not (is_end came_to)) table scene plan timelines start b screens player
   unfolding goes_on
-  shows_on table scene plan timelines start a b before screens old player action.End has goes now shown =
-      let on = goes_on table scene plan timelines start a b before screens old player action.End has goes now shown in
-      record { so = goes.later; stands = goes.stands; written = on.written; ends = goes.tells }
-  shows_on table scene plan timelines start a b before screens old player (action.Step place) has goes now shown =
-      goes_on table scene plan timelines start a b before screens old player (action.Step place) has goes now shown
-  shows_on table scene plan timelines start a b before screens old player action.Idle has goes now shown =
-      goes_on table scene plan timelines start a b before screens old player action.Idle has goes now shown
-  shows_on table scene plan timelines start a b before screens old player (action.Vsync report) has goes now shown =
-      goes_on table scene plan timelines start a b before screens old player (action.Vsync report) has goes now shown
+  shows_on table scene plan timelines start a b before screens old player action.End has goes in_order now shown =
+      let on = goes_on table scene plan timelines start a b before screens old player action.End has goes in_order now shown in
+      record { so = goes.later; stands = goes.stands; written = on.written; ends = goes.tells; in_order = in_order }
+  shows_on table scene plan timelines start a b before screens old player (action.Step place) has goes in_order now shown =
+      goes_on table scene plan timelines start a b before screens old player (action.Step place) has goes in_order now shown
+  shows_on table scene plan timelines start a b before screens old player action.Idle has goes in_order now shown =
+      goes_on table scene plan timelines start a b before screens old player action.Idle has goes in_order now shown
+  shows_on table scene plan timelines start a b before screens old player (action.Vsync report) has goes in_order now shown =
+      goes_on table scene plan timelines start a b before screens old player (action.Vsync report) has goes in_order now shown
 
   -- nothing more was written, or a part of an action
   pub cut_before : (table : TableId) (scene : SceneValue) (plan : Plan) (timelines : List ℕ) (start a : Option (List ℕ)) (before : List OutputScreen) (old : PlayerOf B) → HasShown table scene plan timelines start a before old

@@ -14,7 +14,7 @@ use Rattle.sf_live_compositor.specs.sf_actor_set.ActorSets.{ActorSetOf, IsActorS
 use Rattle.sf_script_scene.specs.Limits.{most_layers}
 use Rattle.sf_live_compositor.specs.sf_live_seats.declared.locks.Locks.{Locks}
 use Rattle.sf_live_compositor.specs.sf_live_threads.declared.all_returned.AllReturned.{AllReturned}
-use Rattle.law_joins.specs.Joined.{IsJoined, actor_set_joined}
+use Rattle.law_live_order.specs.law_joins.Joined.{IsJoined, actor_set_joined}
 use Rattle.sf_live.specs.declared.threads.Joined.{Joined}
 use Rattle.sf_live_compositor.specs.sf_live_threads.declared.gates.Gates.{Gates}
 use Rattle.sf_live_compositor.specs.sf_live_threads.Gates.{HavePassed}

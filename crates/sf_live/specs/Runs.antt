@@ -1,11 +1,13 @@
 -- What a live run begins with, and what is written of the whole of it.
 use Rattle.std.specs.Prelude.{◌≡◌, ℕ, ◌≤◌, Bool, true, List, [], Option, Result, IsErrOf, OnErr, OnOk}
 use Rattle.atomic_table.specs.Seated.{TableId}
+use Rattle.law_rounds.specs.law_order.Order.{InOneOrder}
 use Rattle.sf_io.specs.Causes.{Rose}
 use Rattle.sf_script_scene.specs.Scene.{SceneValue}
 use Rattle.sf_live_compositor.specs.sf_record.declared.encode.RunFault.{RunFault}
 use Rattle.sf_live_compositor.specs.sf_record.declared.encode.RunFault.TheVariants.{WriteFault}
 use Rattle.sf_live_compositor.specs.sf_record.declared.record.Record.{Record}
+use Rattle.sf_live_compositor.specs.law_play_order.Happening.{happened_in}
 use Rattle.sf_live_compositor.specs.law_played.Played.{PlayedLiveWhere}
 use Rattle.sf_live_compositor.specs.sf_play_write.Writing.{CutSome, Writes}
 use Rattle.sf_turns.specs.Counts.{range}
@@ -21,10 +23,16 @@ pub record MayLive (table : TableId) (scene : SceneValue) (seat : SeatView) (sto
   pub whole : stock.buffers ≡ range 0 (permits_of scene.actors)
   pub sized : permits_of scene.actors ≤ table.slots
 
--- the records of a run in threads were written, and mean what such a run means in which a sender is told its place, or not
+-- The records of a run in threads, in which a sender learns its place or not. They mean what such a run means, and its calls, its
+-- arrivals and its vsyncs are in one order.
+pub record MeansLive (tells : Bool) (scene : SceneValue) (records : List Record) : Type 0 where
+  pub live : PlayedLiveWhere tells scene records
+  pub order : InOneOrder tells (happened_in live.played.shows)
+
+-- such records were written
 pub record WroteLive (tells : Bool) (scene : SceneValue) (old new : Option (List ℕ)) : Type 0 where
   pub records : List Record
-  pub means : PlayedLiveWhere tells scene records
+  pub means : MeansLive tells scene records
   pub written : Writes old new records
 
 -- how a live run ended that wrote behind this output; the counts are those of the sink's faults

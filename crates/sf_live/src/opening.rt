@@ -27,7 +27,7 @@ pub struct Opened<B: TableName> {
     pub first: FirstSeats<B>,
 }
 
-/// A desk's queues, arrivals and timelines under locks, with the first seats at them. Senders are told
+/// A desk's queues, arrivals and timelines under locks, with the first seats at them. Senders learn
 /// their places, or send through an intake.
 fn share<B: TableName>(
     alloc: Global,
@@ -51,7 +51,7 @@ fn share<B: TableName>(
 }
 
 /// Opens a scene's actors and queues. It takes the seat and the whole stock of the turns, with a
-/// permit for each dequeue. Senders are told their places, or send through an intake.
+/// permit for each dequeue. Senders learn their places, or send through an intake.
 pub fn open<B: TableName>(
     alloc: Global,
     queues: &[QueueDecl],

@@ -11,7 +11,7 @@ ghost use Rattle.sf_live.specs.inner.Threads.{IsTogether, RunOf};
 ghost use Rattle.sf_live_compositor.specs.law_played.Frames.{plan_of};
 
 use crate::threads::Joined;
-use law_joins::{
+use law_live_order::{
     a_run_in_threads_goes_on, buffers_among_threads_have_their_pictures, what_threads_did_is_played,
 };
 use sf_base::Items;

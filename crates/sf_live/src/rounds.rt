@@ -13,7 +13,6 @@ ghost use Rattle.sf_live_compositor.specs.law_played.Replies.{reply_shown};
 ghost use Rattle.sf_script_scene.specs.Scene.{SceneValue};
 ghost use Rattle.sf_live_compositor.specs.sf_output_screen.ScreenLists.{AreShown};
 ghost use Rattle.sf_live_compositor.specs.sf_play_write.Closings.{closing_of};
-ghost use Rattle.sf_live_compositor.specs.sf_play_write.inner.Rows.{is_end};
 ghost use Rattle.sf_live_compositor.specs.sf_play_write.Writing.{CutSome, Writes, WritesPart};
 ghost use Rattle.sf_live_compositor.specs.sf_actor_steps.declared.actor.Actor.{Actor as ActorIn};
 ghost use Rattle.sf_live_compositor.specs.sf_live_threads.Gates.{HavePassed};
@@ -42,16 +41,6 @@ fn pass_gate<R: Wait, G: Gate, B: TableName>(
 {
     if let Some(place) = player.next_actor() {
         gates[place] = gates[place].ready(rt, gate, &player.actor_set().actors()[place]);
-    }
-}
-
-/// Whether nothing will be done any more.
-fn is_end(action: &Action) -> bool
-    ensures { result ≡ is_end action.now }
-{
-    match action {
-        Action::End => true,
-        _ => false,
     }
 }
 
@@ -118,7 +107,7 @@ fn show_action<R: Threads + Wait + Sync, K: Sink, G: Gate, B: TableName>(
         Ok(action) => action,
         Err(_) => return Err(RunFault::NoMemory),
     };
-    let goes_on = !is_end(&action);
+    let goes_on = !action.is_end();
     match write_action(engine, sink, timelines, plan, screens, player, action) {
         Ok(()) => Ok(goes_on),
         Err(fault) => Err(fault),
@@ -211,9 +200,9 @@ fn write_rest<K: Sink, B: TableName>(
 }
 
 /// Does the rounds of a run that a player goes on with, up to its end. Each vsync is written as it
-/// comes, behind those that were written before; behind the last one come the replies to all steps, by
-/// actor and step, and the records that end the run. After a fault of the sink, or want of memory, the
-/// sink has a prefix of some records.
+/// comes, behind those that were written before; behind the last one come the replies to all steps,
+/// by actor and step, and the records that end the run. After a fault of the sink, or running out
+/// of memory, the sink has a prefix of some records.
 pub(crate) fn write_rounds<R: Threads + Wait + Sync, K: Sink, G: Gate, B: TableName>(
     engine: &Engine<R>,
     sink: &mut K,

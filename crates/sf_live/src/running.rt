@@ -16,7 +16,7 @@ use std::alloc::Global;
 use std::sync::Wait;
 use std::thread::Threads;
 
-/// Why a run in threads came to no end: want of memory, unless the compositor ended it for a fault of
+/// Why a run in threads came to no end: out of memory, unless the compositor ended it for a fault of
 /// its sink.
 fn fault_of(why: Stopped, fault: Option<RunFault>) -> RunFault
     ensures { result ≡ WriteFault → (why ≡ stopped.Ended) × (fault ≡ Some WriteFault) }

@@ -175,7 +175,7 @@ fn run_scene<R: Threads + Wait + Sync, K: Sink, G: Gate + Sync, B: TableName + S
     )
 }
 
-/// Runs a scene live, where senders are told their places, or send through an intake.
+/// Runs a scene live, where senders learn their places, or send through an intake.
 fn live_by<R: Threads + Wait + Sync, K: Sink, G: Gate + Sync, B: TableName + Send + Sync>(
     engine: &Engine<R>,
     sink: &mut K,
@@ -198,11 +198,11 @@ fn live_by<R: Threads + Wait + Sync, K: Sink, G: Gate + Sync, B: TableName + Sen
     run_scene::<R, K, G, B>(engine, sink, gate, timelines, scene, seat, stock, tells)
 }
 
-/// Runs a scene with each actor in a thread of its own, over buffers of the table that B
-/// names, and writes the records of the run: those of vsyncs as they come, and behind them the
-/// replies, by actor and step. The gate is passed once for each step, before its first try. The
-/// workers of the engine compose each frame. It takes the seat and the whole stock of the turns, with
-/// a permit for each dequeue. After a fault of the sink, or want of memory, the sink has whole records
+/// Runs a scene with each actor in a thread of its own, over buffers of the table that B names, and
+/// writes the records of the run: those of vsyncs as they come, and behind them the replies, by
+/// actor and step. The gate is passed once for each step, before its first try. The workers of the
+/// engine compose each frame. It takes the seat and the whole stock of the turns, with a permit for
+/// each dequeue. After a fault of the sink, or running out of memory, the sink has whole records
 /// and then at most one that is cut.
 pub fn live<R: Threads + Wait + Sync, K: Sink, G: Gate + Sync, B: TableName + Send + Sync>(
     engine: &Engine<R>,
@@ -218,8 +218,8 @@ pub fn live<R: Threads + Wait + Sync, K: Sink, G: Gate + Sync, B: TableName + Se
     live_by::<R, K, G, B>(engine, sink, gate, scene, seat, stock, true)
 }
 
-/// The same, where transactions arrive through a queue that takes them without a lock: their sender is
-/// not told their place, and the reply to each `apply` that sends one has the value 0.
+/// The same, where transactions arrive through a queue that takes them without a lock: their sender
+/// does not learn their place, and the reply to each `apply` that sends one has the value 0.
 pub fn live_queue<R: Threads + Wait + Sync, K: Sink, G: Gate + Sync, B: TableName + Send + Sync>(
     engine: &Engine<R>,
     sink: &mut K,

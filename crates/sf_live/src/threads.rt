@@ -28,7 +28,7 @@ pub(crate) struct Joined<B: TableName> {
     pub(crate) gates: Vec<Gates>,
 }
 
-/// Tells of each queue that its calls are legal. It does nothing: each queue keeps this of itself.
+/// States that each queue's calls are legal. It does nothing: each queue keeps this of itself.
 fn legal_each<B: TableName>(queues: &[QueueObject<B>])
     ensures { All (λ (object : ObjectOf B). IsLegal (Answers (mark_of object)) object.calls) queues.now }
 {
@@ -37,7 +37,7 @@ fn legal_each<B: TableName>(queues: &[QueueObject<B>])
     }
 }
 
-/// Tells that a desk of one thread knows all that happened, and that its calls are legal. It does
+/// States that a desk of one thread knows all that happened, and that its calls are legal. It does
 /// nothing.
 fn tell<B: TableName>(desk: &PlainDesk<B>)
     ensures knows { KnowsAll (view_of desk.now) }

@@ -73,12 +73,6 @@ module _ {B : Type 0} where
   first_known locks by gave last (at.Takes inbox) seen first way = refl
   first_known locks by gave last at.Finished seen first way = refl
 
-  pub first_posts : (locks : Locks B) (by : ℕ) (gave : List ℕ) (last : Clock) (at_intake : AtIntake B) → by ≡ 0 → IsAtIntake locks by gave last at_intake → posts_of at_intake ≡ []
-  first_posts locks by gave last at.Nothing first way = refl
-  first_posts locks by gave last (at.Sends outbox) first way = absurd (way.apart first)
-  first_posts locks by gave last (at.Takes inbox) first way = refl
-  first_posts locks by gave last at.Finished first way = refl
-
   known_none : (at_intake : AtIntake B) → posts_of at_intake ≡ [] → arrivals_known at_intake [] ≡ []
   known_none at.Nothing none = refl
   known_none (at.Sends outbox) none = ap (λ posts. arrivals 1 posts) none

@@ -46,9 +46,6 @@ sent_one v w brought given step txn answer number marked is sends =
           (before_newest v.by v.seen w.seen before (entry v.by (brought, arrive.Send step txn) (given, reply.Number number)) refl made.newest.1 made.begins made.own));
     }
 
-pub takes_same : (v w : ArrivalsPass) (brought given step : ℕ) (txn : Contents ReadLeaseOf) (answer : Arrived) → v.mark ≡ Some tt → Sends v w (brought, arrive.Send step txn) (given, answer) → takes_in (calls_by v.by w.seen) ≡ takes_in (calls_by v.by v.seen)
-takes_same v w brought given step txn answer marked sends = ap (λ (log : List ArrivalEntry). takes_in log) (sends tt marked).0.own
-
 -- a desk of a caller's seats, under locks without an intake, sent what its pass sent
 pub made_send : {B X : Type 0} (seats : Seats B) (new shown : ArrivalsPass) (last : Clock) (locks : Locks B) (step : ℕ) (txn : Contents ReadLeaseOf) (result : Result ℕ X) → shown ≡ new → seats.arrivals.by ≡ seats.by → locks.intake ≡ None → seats.intake ≡ at.Nothing
     → seats.arrivals.turns ≤ new.turns → IfOk result (SentOne seats.arrivals new step txn)
@@ -75,7 +72,7 @@ pub not_sent : {B X : Type 0} (seats : Seats B) (new shown : ArrivalsPass) (last
 not_sent seats new shown last step txn (Ok place) is back = tt
 not_sent seats new shown last step txn (Err x) is back = (
   back.0,
-  subst (λ (p : ArrivalsPass). IsAsBefore (view_of seats) (view_of (record seats { arrivals = p; pass = Some new; last = last }))) (sym (is ∙ back.1)) (record { same = refl; locked = omega arith }),
+  subst (λ (p : ArrivalsPass). IsAsBefore (view_of seats) (view_of (record seats { arrivals = p; pass = Some new; last = last }))) (sym (is ∙ back.1)) refl,
 )
 
 -- what a call through a pass at the arrivals tells that sends, or is refused

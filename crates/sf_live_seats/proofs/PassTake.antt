@@ -48,9 +48,6 @@ took_one v w brought given answer list marked is sends =
           (before_newest v.by v.seen w.seen before (entry v.by (brought, arrive.Take) (given, reply.Batch list)) refl made.newest.1 made.begins made.own);
     }
 
-pub sends_same : (v w : ArrivalsPass) (brought given : ℕ) (answer : Arrived) → v.mark ≡ Some tt → Sends v w (brought, arrive.Take) (given, answer) → sent_in (calls_by v.by w.seen) ≡ sent_in (calls_by v.by v.seen)
-sends_same v w brought given answer marked sends = ap (λ (log : List ArrivalEntry). sent_in log) (sends tt marked).0.own
-
 -- the take has the newest stamp, above the one that was brought
 pub newest_took : (v w : ArrivalsPass) (brought given : ℕ) (answer : Arrived) → v.mark ≡ Some tt → Sends v w (brought, arrive.Take) (given, answer) → newest_stamp w.seen ≡ given
 newest_took v w brought given answer marked sends = ap (λ (log : List ArrivalEntry). newest_stamp log) (sends tt marked).0.newest.1
@@ -79,21 +76,9 @@ pub if_both : {X Y : Type 0} (P Q S : X → Type 0) (result : Result X Y) → ((
 if_both P Q S (Ok x) each one other = each x one other
 if_both P Q S (Err y) each one other = tt
 
-pub if_each : {X Y : Type 0} (P Q : X → Type 0) (result : Result X Y) → ((x : X) → P x → Q x) → IfOk result P → IfOk result Q
-if_each P Q (Ok x) each one = each x one
-if_each P Q (Err y) each one = tt
-
 pub if_not : {X Y : Type 0} (P Q : Y → Type 0) (result : Result X Y) → ((y : Y) → P y → Q y) → IfErr result P → IfErr result Q
 if_not P Q (Ok x) each one = tt
 if_not P Q (Err y) each one = each y one
-
-pub if_always : {X Y : Type 0} {P : Type 0} (result : Result X Y) → P → IfOk result (λ x. P)
-if_always (Ok x) p = p
-if_always (Err y) p = tt
-
-pub if_on : {X Y : Type 0} (P : Type 0) (result : Result X Y) → OnOk result P → IfOk result (λ x. P)
-if_on P (Ok x) p = p
-if_on P (Err y) p = tt
 
 pub if_refused : {X Y : Type 0} {P : Type 0} (result : Result X Y) → P → IfErr result (λ y. P)
 if_refused (Ok x) p = tt
@@ -118,7 +103,7 @@ module _ {B : Type 0} where
   known_same old new brings = ap view_of brings.same ∙ ap (λ (list : List (Arrival ReadLeaseOf)). record (view_of old) { arrivals = list }) (brings.known old.arrivals.seen)
 
   pub brings_as_before : (old new : Seats B) → BringsIn old new → IsAsBefore (view_of old) (view_of new)
-  brings_as_before old new brings = subst (λ (v : DeskView B). IsAsBefore (view_of old) v) (sym (known_same old new brings)) (record { same = refl; locked = omega arith })
+  brings_as_before old new brings = known_same old new brings
 
   pub as_before_on : (old mid new : Seats B) → BringsIn old mid → IsAsBefore (view_of mid) (view_of new) → IsAsBefore (view_of old) (view_of new)
   as_before_on old mid new brings stays = subst (λ (v : DeskView B). IsAsBefore v (view_of new)) (known_same old mid brings) stays
@@ -205,7 +190,7 @@ module _ {B : Type 0} (buffers : TableId) (locks : Locks B) (seats : Seats B) (n
   })
 
   pub waiting_stays : new ≡ seats.arrivals → IsAsBefore (view_of seats) (view_of (took_seats shown))
-  waiting_stays same = subst (λ (p : ArrivalsPass). IsAsBefore (view_of seats) (view_of (took_seats p))) (sym (is ∙ same)) (record { same = refl; locked = omega arith })
+  waiting_stays same = subst (λ (p : ArrivalsPass). IsAsBefore (view_of seats) (view_of (took_seats p))) (sym (is ∙ same)) refl
 
 -- the first caller's pass is there
 pub there_first : {B : Type 0} (buffers : TableId) (locks : Locks B) (seats : Seats B) → AreSeats buffers locks seats → seats.by ≡ 0 → seats.pass ≡ Some seats.arrivals

@@ -247,7 +247,7 @@ module _ {B : Type 0} where
       pub same_after : next ≡ one → IsAsBefore (view_with passes) (view_with (set passes place next))
       same_after same =
           let all : set passes place next ≡ passes = ap (λ (p : QueuePass B). set passes place p) (same ∙ h.there) ∙ set-get_or passes place one in
-          record { same = ap (λ (ps : List (QueuePass B)). record (view_with (set passes place next)) { calls = calls_known ps }) all; locked = (let a = turns_rise in let b = h.turns in omega (arith, a, b)) }
+          ap view_with all
 
       -- the same of whatever a call answers
       pub if_made : (asked : ℕ × QCall B) (result : Result (QReply B) (CallFault (QCall B))) → IfOk result (MadeOne (lock_mark lock) one next asked) → IfOk result (MadeCall home (view_with passes) (view_with (set passes place next)) by queue asked)

@@ -137,6 +137,7 @@ module _ {B : Type 0} where
               (Contains-append_left (sent_in (calls_by seats.by seats.arrivals.seen)) (map post_moment (posts_of seats.intake)) (sends.0, stamp_of e)
               (sent_there (calls_by seats.by seats.arrivals.seen) e sends.0 sends.1 there sends.2))) less;
         };
+    kept = λ none. refl;
   }
 
   met_at : (by : ℕ) (couriers : List (Courier B)) (place : ℕ) (d : Courier B) → position_or_len (is_courier by) couriers ≡ place → place < length couriers → (get_or couriers place d).by ≡ by
@@ -252,6 +253,7 @@ module _ {B : Type 0} where
                 let over = behind.above in
                 omega (arith, up, over);
           };
+      kept = λ none. absurd (let f : true ≡ false = sym (ap is_none none) ∙ untold in cc);
     }
 
 -- below the next number is this one, or one below

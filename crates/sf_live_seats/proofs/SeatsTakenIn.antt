@@ -325,9 +325,6 @@ module _ {B : Type 0} where
   note_there old now all rest place note d so =
       ap (λ (ps : List (QueuePass B)). get_or ps place d) (sym so.joined) ∙ ap (λ (k : ℕ). get_or (so.taken ++ (note ∷ rest)) k d) (sym so.count) ∙ behind so.taken rest note d
 
-  pub now_long : (old now all rest : List (QueuePass B)) (place : ℕ) → MeetSoFar old now all rest place → length now ≡ length old
-  now_long old now all rest place so = ap (λ (ps : List (QueuePass B)). length ps) so.now_is ∙ met_long old so.taken
-
   pub meet_goes_on : (old now all before rest : List (QueuePass B)) (place : ℕ) (note d next : QueuePass B) → MeetSoFar old now all before place → before ≡ note ∷ rest → place < length old → next ≡ met (get_or now place d) note → KeepsOwn (get_or now place d) next → MeetSoFar old (set now place next) all rest (place + 1)
   meet_goes_on old now all before rest place note d next so comes low is own =
       let here = met_there old now all before place d so in

@@ -125,8 +125,5 @@ module _ {B : Type 0} where
     sends_back step txn (Ok number) back = tt
     sends_back step txn (Err x) back = (
       back.0,
-      record {
-        same = ap (λ (list : List (Arrival ReadLeaseOf)). record (view_of seats) { arrivals = list }) (ap (λ posts. arrivals 1 posts) back.1 ∙ sym (ap (λ at_intake. arrivals_known at_intake seats.arrivals.seen) is));
-        locked = omega arith;
-      },
+      ap (λ (list : List (Arrival ReadLeaseOf)). record (view_of seats) { arrivals = list }) (ap (λ posts. arrivals 1 posts) back.1 ∙ sym (ap (λ at_intake. arrivals_known at_intake seats.arrivals.seen) is)),
     )

@@ -7,7 +7,7 @@ use Rattle.sf_base.specs.Points.{greatest}
 use Rattle.sf_base.specs.declared.memory.NoMemory.{NoMemory}
 use Rattle.sf_base.specs.declared.fences.Seen.{Seen}
 use Rattle.sf_commit.specs.Handlers.{Decides, HandlerOf, Stops}
-use Rattle.sf_commit.specs.Releases.{VsyncOf}
+use Rattle.sf_commit.specs.Releases.{CommittedOf}
 use Rattle.sf_actor.specs.sf_slots.declared.slot.Held.{Held}
 use Rattle.sf_actor.specs.sf_surface.Hands.{blank_of, own_lease}
 use Rattle.sf_actor.specs.sf_surface.Reading.{eye_mark}
@@ -38,7 +38,7 @@ seat_goes_on old new made mark leaves keeps = record {
     still buffer = omega arith
 
 -- the ends that a vsync makes, whether it found memory or not
-pub vsync_ends : {R C : Type 0} (lease : Ghosts ReadLeaseOf SeatView R C) (old new : HandlerOf ReadLeaseOf) (eye after : SeatView) (arrived : List (Arrival ReadLeaseOf)) (seen : Seen) (expected : ℕ) (result : Result (VsyncOf ReadLeaseOf) NoMemory)
+pub vsync_ends : {R C : Type 0} (lease : Ghosts ReadLeaseOf SeatView R C) (old new : HandlerOf ReadLeaseOf) (eye after : SeatView) (arrived : List (Arrival ReadLeaseOf)) (seen : Seen) (expected : ℕ) (result : Result (CommittedOf ReadLeaseOf) NoMemory)
     → IfOk result (λ told. Decides lease old eye arrived seen expected told new after) → OnErr result (Stops lease old eye arrived seen expected new after) → (made : List (ℕ × ℕ)) × (lease.ends after ≡ lease.ends eye ++ made)
 vsync_ends lease old new eye after arrived seen expected (Ok told) decides stops = (_, decides.settled.reads.ends)
 vsync_ends lease old new eye after arrived seen expected (Err e) decides stops = (_, stops.reads.ends)

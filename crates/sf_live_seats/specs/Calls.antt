@@ -1,4 +1,4 @@
--- What a call through one pass tells.
+-- What a call through one pass shows.
 use Rattle.std.specs.Prelude.{◌≡◌, ℕ, ◌+◌, ◌<◌, ◌≤◌, List, [], ◌∷◌, ◌++◌, ◌⊎◌, length}
 use Rattle.sf_calls.specs.Histories.{GoesOnWithout, IsLegal, entry, waits}
 use Rattle.sf_calls_stamped.specs.Stamps.{unstamped}

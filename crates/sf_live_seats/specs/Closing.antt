@@ -46,7 +46,7 @@ module _ {B : Type 0} where
     pub taker : inbox.taker ≡ first_taker inbox.taker.intake
     pub empty : IsEmpty inbox
 
-  -- where places are told there is no intake
+  -- where places are reported there is no intake
   abbrev pub OpensIntake : Bool → Option (ℕ × ℕ) → AtIntake B → Type 0
   OpensIntake true intake first = (intake ≡ None) × (first ≡ at.Nothing)
   OpensIntake false intake first = OpensInbox intake first

@@ -1,5 +1,5 @@
 -- Callers' seats as they are taken in, each with its pass at the arrivals again.
-use Rattle.std.specs.Prelude.{◌≡◌, ℕ, ◌<◌, List, Contains}
+use Rattle.std.specs.Prelude.{◌≡◌, ℕ, ◌<◌, List, Contains, None}
 use Rattle.sf_calls.specs.Histories.{calls_by}
 use Rattle.sf_calls_stamped.specs.Stamps.{stamp_of}
 use Rattle.sf_actor.specs.sf_surface.Tokens.{ReadLeaseOf}
@@ -23,16 +23,17 @@ module _ {B : Type 0} where
     pub sends : e.call.1 ≡ arrive.Send step txn
     pub above : (m : ℕ × ℕ) → Contains (moments_of seats) m → m.0 < step → m.1 < stamp_of e
 
-  -- what the caller of these seats sent, as far as they know, with the numbers that it was told
+  -- what the caller of these seats sent, as far as they know, with the numbers that it got
   abbrev pub sent_of : Locks B → Seats B → List (Arrival ReadLeaseOf)
   sent_of locks seats = (share_of seats.by (known_of (home_of locks seats) (view_of seats))).arrivals
 
   -- Seats as they are taken in, maybe with another pass at the arrivals: by its calls there all that their caller sent was put among the
-  -- arrivals, in order. The first caller's calls may take too.
+  -- arrivals, in order. The first caller's calls may take too. Where there is no intake the pass is the one that they had.
   pub record Reunites (locks : Locks B) (seats reunited : Seats B) : Type 0 where
     pub same : reunited ≡ record seats { arrivals = reunited.arrivals; pass = reunited.pass; intake = reunited.intake }
     pub sent : sent_of locks reunited ≡ sent_of locks seats
     pub sends : (seats.by ≡ 0 → ⊥) → (e : ArrivalEntry) → Contains (calls_by seats.by reunited.arrivals.seen) e → SendsAfter seats e
+    pub kept : locks.intake ≡ None → reunited.arrivals ≡ seats.arrivals
 
   -- the first seats, after all that was sent was put among the arrivals
   pub record Finishes (old new : FirstSeats B) : Type 0 where

@@ -52,7 +52,7 @@ module _ {B : Type 0} where
   abbrev pub tables_of : Locks B → List TableId
   tables_of locks = locks.arrivals ∷ locks.times ∷ map (λ (lock : QueueLock B). lock.lock) locks.queues.items
 
-  -- whether a sender is told the place of its transaction among the arrivals: it is not where transactions come through an intake
+  -- whether a sender learns the place of its transaction among the arrivals: it is not where transactions come through an intake
   abbrev pub tells_of : Locks B → Bool
   tells_of locks = is_none locks.intake
 

@@ -18,8 +18,8 @@ use sf_intake::{ArriveCall, ArriveReply, Transaction};
 use sf_turns::TableName;
 use std::sync::Wait;
 
-/// Makes a call through a pass, for a step of its caller, whose last call this is then. A step before
-/// that of the last call is refused as for want of memory: a caller's calls are made in order.
+/// Makes a call through a pass, for a step of its caller, whose last call this is then. A step
+/// before that of the last call is refused as out of memory: a caller's calls are made in order.
 pub(crate) fn call_one<R: Wait, B: TableName>(
     rt: &R,
     lock: &QueueLock<B>,

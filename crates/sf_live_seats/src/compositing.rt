@@ -21,7 +21,7 @@ use crate::shown::Shown;
 use sf_actor::ReadLease;
 use sf_base::{NoMemory, Seen};
 use sf_calls::{CallFault, CallLock, Pass};
-use sf_commit::{Contents, Handler, Vsync};
+use sf_commit::{Committed, Contents, Handler};
 use sf_intake::{ArriveCall, ArriveReply, Arrived, Batch, Lease};
 use sf_turns::sf_picture::Painted;
 use sf_turns::{TableName, TurnSeat};
@@ -64,7 +64,7 @@ fn vsync_through<B: TableName>(
     arrived: Vec<Arrived<ReadLease<B>>>,
     seen: &Seen,
     expected: u64,
-) -> Result<Vsync<ReadLease<B>>, NoMemory>
+) -> Result<Committed<ReadLease<B>>, NoMemory>
     requires own { turns.old.table ≡ B.table }
     requires rising { handler.old.is_spent ≡ false → IsRisingFrom handler.old.last arrived.items (last_of handler.old.last arrived.items) }
     ensures decides { IfOk result (λ told. Decides ⟦<ReadLease<B> as Lease>⟧ handler.old turns.old arrived.items seen.now expected told handler.new turns.new) }
@@ -72,7 +72,7 @@ fn vsync_through<B: TableName>(
     ensures again { handler.old.is_spent ≡ true → IsErr result }
     ensures goes { SeatGoesOn turns.old turns.new }
 {
-    handler.vsync(turns, arrived, seen, expected)
+    handler.commit(turns, arrived, seen, expected)
 }
 
 /// Gives pixels back to a handler that lent them, with a seat at the turns as its eye: the reads that
@@ -162,7 +162,7 @@ impl<B: TableName> Seats<B> {
         arrived: Vec<Arrived<ReadLease<B>>>,
         seen: &Seen,
         expected: u64,
-    ) -> Result<Vsync<ReadLease<B>>, NoMemory>
+    ) -> Result<Committed<ReadLease<B>>, NoMemory>
         requires own { self.old.turns.table ≡ B.table }
         requires rising { handler.old.is_spent ≡ false → IsRisingFrom handler.old.last arrived.items (last_of handler.old.last arrived.items) }
         ensures decides { IfOk result (λ told. Decides ⟦<ReadLease<B> as Lease>⟧ handler.old self.old.turns arrived.items seen.now expected told handler.new self.new.turns) }

@@ -182,10 +182,10 @@ impl<B: TableName> FirstSeats<B> {
         Ok(())
     }
 
-    /// Puts all that was sent through the intake among the arrivals, once nobody sends any more, and gives
-    /// these callers, to each of which it made a sender, their passes back. Nothing is done where there is
-    /// no intake. A sender that is left out leaves its caller without a pass: nothing is taken from the
-    /// intake any more, and a further call is refused as for want of memory.
+    /// Puts all that was sent through the intake among the arrivals, once nobody sends, and gives
+    /// these callers, to each of which it made a sender, their passes back. Nothing is done where
+    /// there is no intake. A sender that is left out leaves its caller without a pass: nothing is
+    /// taken from the intake from then on, and a further call is refused as out of memory.
     pub fn finish<R: Wait>(
         &mut self,
         locks: &Locks<B>,

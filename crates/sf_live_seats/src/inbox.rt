@@ -133,8 +133,8 @@ impl<B: TableName> Inbox<B> {
         Ok(sender)
     }
 
-    /// Puts the oldest of what is left among the arrivals, in its sender's name. False where nothing is
-    /// left. Want of memory leaves it the oldest of what is left.
+    /// Puts the oldest of what is left among the arrivals, in its sender's name. False where
+    /// nothing is left. Out of memory leaves it the oldest of what is left.
     fn forward<R: Wait>(
         &mut self,
         rt: &R,
@@ -199,8 +199,9 @@ impl<B: TableName> Inbox<B> {
         Ok(())
     }
 
-    /// Takes what was sent, at most 4,096, and puts it among the arrivals, behind what a refusal left.
-    /// True where it took as many. Want of memory keeps what was taken and is not among them yet.
+    /// Takes what was sent, at most 4,096, and puts it among the arrivals, behind what a refusal
+    /// left. True where it took as many. Out of memory keeps what was taken and is not among them
+    /// yet.
     pub(crate) fn bring<R: Wait>(
         &mut self,
         rt: &R,

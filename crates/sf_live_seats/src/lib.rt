@@ -30,6 +30,6 @@ pub use locks::{Locks, QueueLock};
 pub use outbox::Outbox;
 pub use queue_seat::QueueSeat;
 pub use seats::Seats;
-pub use sf_commit::{Handler, Release, Vsync};
+pub use sf_commit::{Committed, Handler, Release};
 pub use shared::SharedDesk;
 pub use shown::Shown;

@@ -45,7 +45,8 @@ pub struct Locks<B: TableName> {
     pub(crate) queues: Vec<QueueLock<B>>,
     pub(crate) arrivals: CallLock<StampedArrivals<B>>,
     pub(crate) times: Timelines,
-    // Where transactions come without a lock, what they come through. A sender is told no place then.
+    // Where transactions come without a lock, what they come through. A sender learns no place
+    // then.
     pub(crate) intake: Option<Intake<ReadLease<B>, Brand>>,
 }
 
@@ -113,7 +114,7 @@ fn close_queues<B: TableName>(
     Ok(objects)
 }
 
-/// An intake, where no places are told, and what the first caller has there.
+/// An intake, where no places are reported, and what the first caller has there.
 fn open_intake<B: TableName>(
     alloc: Global,
     tells: bool,
@@ -149,9 +150,9 @@ impl<B: TableName> Locks<B> {
         is_there(&self.queues, queue)
     }
 
-    /// What threads are to share, and the first caller's seats, with the number 0. Nothing was called
-    /// yet. Where a sender is to be told no place, transactions come through an intake. Only want of
-    /// memory refuses it.
+    /// What threads are to share, and the first caller's seats, with the number 0. Nothing was
+    /// called yet. Where a sender is to learn no place, transactions come through an intake. Its
+    /// only error is out of memory.
     pub fn open(
         alloc: Global,
         queues: Vec<QueueObject<B>>,

@@ -22,7 +22,7 @@ impl<B: TableName> Outbox<B> {
     ghost use Rattle.std.specs.Prelude.{◌≡◌, ◌+◌, ◌≤◌, length, IfOk, IfErr};
     ghost use Rattle.sf_live_seats.specs.Outboxes.{IsReady, Posts, SendsStill};
 
-    /// Sends a transaction, for a step of its caller. It is refused as for want of memory where the step
+    /// Sends a transaction, for a step of its caller. It is refused as out of memory where the step
     /// is before that of the caller's last call, and where the caller has sent as much as it may.
     pub(crate) fn send<R: Wait>(
         &mut self,

@@ -3,6 +3,7 @@
 use Rattle.std.specs.Prelude.{◌≡◌, ℕ, Bool, true, false, List, [], ◌∷◌, map, Option, None, Some, slice_get, slice_set}
 use Rattle.std.specs.List.{flat_map}
 use Rattle.atomic_table.specs.Seated.{TableId}
+use Rattle.law_rounds.specs.Rounds.{IsInOrder}
 use Rattle.sf_picture.specs.declared.picture.Picture.{Picture}
 use Rattle.sf_script_scene.specs.Scene.{SceneValue}
 use Rattle.sf_live_compositor.specs.sf_actor.Scripts.{picture_at}
@@ -22,7 +23,7 @@ use Rattle.sf_live_compositor.specs.law_played.Vsyncs.{rising_timelines, vsyncs_
 use Rattle.sf_live_compositor.specs.sf_output_screen.ScreenLists.{AreShown}
 use Rattle.sf_live_compositor.specs.sf_output_screen.declared.screens.OutputScreen.{OutputScreen}
 use Rattle.sf_live_compositor.specs.sf_play.Going.{EndsRun, TellsStage}
-use Rattle.sf_live_compositor.specs.sf_play.Players.{PlayerOf, SoFar}
+use Rattle.sf_live_compositor.specs.sf_play.Players.{PlayerOf, SoFar, home_in}
 use Rattle.sf_live_compositor.specs.sf_play.Standing.{StandsInRun}
 use Rattle.sf_live_compositor.specs.sf_play.declared.action.Action.{Action}
 use Rattle.sf_live_compositor.specs.sf_play.declared.action.Action.TheVariants as action
@@ -41,11 +42,11 @@ module _ {B : Type 0} where
 
   -- an action can be written by a plan, which is the scene's: what its vsync shows can be composed
   abbrev pub MayWriteAction : SceneValue → Plan → Action → PlayerOf B → Type 0
-  MayWriteAction scene plan (action.Vsync report) player = (plan ≡ plan_of scene) × TellsStage scene report player.play
+  MayWriteAction scene plan (action.Vsync report) player = (plan ≡ plan_of scene) × TellsStage scene player.play
   MayWriteAction scene plan other player = Unit {0}
 
   -- The vsyncs of a run so far are written behind what was there before, and the screens have the last frames; the player stands in
-  -- the run.
+  -- the run, and what happened in it is in one order.
   pub record HasShown (table : TableId) (scene : SceneValue) (plan : Plan) (timelines : List ℕ) (start now : Option (List ℕ)) (screens : List OutputScreen)
       (player : PlayerOf B) : Type 0 where
     pub so : SoFar B
@@ -54,6 +55,7 @@ module _ {B : Type 0} where
     pub rising : timelines ≡ rising_timelines scene
     pub written : Writes start now (opening scene ∷ events_records (vsyncs_alone so.events))
     pub shown : AreShown (picture_at scene.pictures) screens
+    pub in_order : IsInOrder (home_in player.play).tells scene so player.play
 
   -- the same at the end of the rounds, where only the replies and the closing records are to come
   pub record HasShownAll (table : TableId) (scene : SceneValue) (start now : Option (List ℕ)) (player : PlayerOf B) : Type 0 where
@@ -61,6 +63,7 @@ module _ {B : Type 0} where
     pub stands : StandsInRun table scene so player
     pub written : Writes start now (opening scene ∷ events_records (vsyncs_alone so.events))
     pub ends : EndsRun scene so player
+    pub in_order : IsInOrder (home_in player.play).tells scene so player.play
 
   -- an action was written: there are more to come, or the run is at its end
   abbrev pub ShowsOn : Bool → TableId → SceneValue → Plan → List ℕ → Option (List ℕ) → Option (List ℕ) → List OutputScreen → PlayerOf B → Type 0

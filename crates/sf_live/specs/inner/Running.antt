@@ -52,7 +52,7 @@ module _ {K B : Type 0} {naming : Naming B} where
     pub set : IsSet c.period c.plan c.timelines.items
 
   module _ (taken : K → Option (List ℕ)) (faults : K → ℕ) where
-    -- what is told of a run from this compositor to that one, which came to these seats
+    -- what is said of a run from this compositor to that one, which came to these seats
     abbrev pub run_by : SceneValue → Seats B → Compositor K B naming → Compositor K B naming → RunOf B
     run_by scene seats start c = record {
       scene = scene;

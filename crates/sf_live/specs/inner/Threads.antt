@@ -29,11 +29,11 @@ use Rattle.sf_live_compositor.specs.sf_live_threads.Gates.{HasPassed, HavePassed
 use Rattle.sf_live_compositor.specs.sf_live_threads.Walks.{Moment}
 use Rattle.sf_live_compositor.specs.Sitting.{AreFound, records_shown, showings_of}
 use Rattle.sf_live_compositor.specs.Vsyncs.{Sitting, Vsyncs}
-use Rattle.law_joins.specs.law_threads.Joining.{Joins, actor_at}
-use Rattle.law_joins.specs.Joined.{IsJoined, actor_set_joined}
+use Rattle.law_live_order.specs.law_joins.law_threads.Joining.{Joins, actor_at}
+use Rattle.law_live_order.specs.law_joins.Joined.{IsJoined, actor_set_joined}
 use Rattle.sf_live.specs.declared.threads.Joined.{Joined}
 
--- a run in threads: its scene, where its compositor came to, of which timelines it tells, what the sink had taken before the first vsync and what it
+-- a run in threads: its scene, where its compositor came to, of which timelines it reports, what the sink had taken before the first vsync and what it
 -- has now, and what the screens show
 pub record RunOf (B : Type 0) : Type 0 where
   pub scene : SceneValue
@@ -66,7 +66,7 @@ module _ {B : Type 0} where
     abbrev pub LogFrom : Sitting B → Type 0
     LogFrom begins = Vsyncs lease table locks run.scene.period begins run.last
 
-    -- what a log tells was written, where the buffers on layers have their pictures
+    -- what a log says was written, where the buffers on layers have their pictures
     pub record HasWritten (begins : Sitting B) (log : LogFrom begins) : Type 0 where
       pub written : (pictures : ℕ → Picture) → AreFound pictures (showings_of lease table locks run.scene.period log)
           → Writes run.before run.now (records_shown pictures (plan_of run.scene) run.timelines (showings_of lease table locks run.scene.period log))

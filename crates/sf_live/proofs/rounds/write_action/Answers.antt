@@ -2,9 +2,7 @@ use Rattle.std.proofs.Common.{ap, ◌∙◌, subst, sym, OnErr, OnOk}
 use Rattle.sf_live_compositor.specs.sf_commit.Handlers.{HandlerOf}
 use Rattle.sf_live_compositor.specs.sf_surface.Tokens.{ReadLeaseOf}
 use Rattle.sf_live_compositor.specs.sf_actor.Scripts.{picture_at}
-use Rattle.sf_live_compositor.specs.sf_play.Playing.{expected_by}
 use Rattle.sf_live_compositor.specs.sf_play.declared.action.Action.{Action}
-use Rattle.sf_live_compositor.specs.sf_play_report.Stages.{IsStage}
 use Rattle.sf_live_compositor.specs.sf_play_report.declared.report.VsyncReport.{VsyncReport}
 use Rattle.sf_live_compositor.specs.sf_output_screen.ScreenLists.{AreShown}
 use Rattle.sf_live_compositor.specs.sf_play_write.Vsyncs.{vsync_shown}
@@ -20,8 +18,7 @@ show_vsync-requires-clause-unlent g c κs within = ap (λ (h : HandlerOf ReadLea
 pub show_vsync-requires-clause-stage : goal.show_vsync-requires-clause-stage
 show_vsync-requires-clause-stage g c κs within =
     let tells = subst (λ (t : Action). MayWriteAction c.requires.may.0 c.args.plan.now t c.args.player.now) c.in-Vsync.is c.requires.may.1 in
-    subst (λ (r : VsyncReport). IsStage expected_by c.args.plan.now c.handler.result.now r.view r.sources) (sym c.into_report.ensures)
-    (stage_told c.requires.may.0 c.args.plan.now c.in-Vsync.report c.args.player.now c.handler.result.now tells c.handler.ensures.handler)
+    stage_told c.requires.may.0 c.args.plan.now c.args.player.now c.handler.result.now tells c.handler.ensures.handler
 
 pub returns-in-Vsync-clause-ok : goal.returns-in-Vsync-clause-ok
 returns-in-Vsync-clause-ok g c = λ scene may shown.
@@ -29,7 +26,7 @@ returns-in-Vsync-clause-ok g c = λ scene may shown.
     let wrote =
     subst (λ (r : VsyncReport). OnOk c.show_vsync.result (Writes (g.K.Sink.taken c.args.sink.now) (g.K.Sink.taken c.show_vsync.new.sink) (vsync_shown (picture_at scene.pictures) c.args.plan.now c.args.timelines.now r c.handler.result.now.tree.layers) × AreShown (picture_at scene.pictures) c.show_vsync.new.screens))
     c.into_report.ensures
-    (c.show_vsync.ensures.ok (picture_at scene.pictures) (expected_told scene c.args.plan.now c.in-Vsync.report c.args.player.now c.handler.result.now tells c.handler.ensures.handler) shown) in
+    (c.show_vsync.ensures.ok (picture_at scene.pictures) (expected_told scene c.args.plan.now c.args.player.now c.handler.result.now tells c.handler.ensures.handler) shown) in
     subst (λ (t : Action). OnOk c.show_vsync.result (Writes (g.K.Sink.taken c.args.sink.now) (g.K.Sink.taken c.show_vsync.new.sink) (action_written (picture_at scene.pictures) c.args.plan.now c.args.timelines.now c.args.player.now t)
     × AreShown (picture_at scene.pictures) c.show_vsync.new.screens)) (sym c.in-Vsync.is) (rw c.handler.ensures.handler at wrote)
 
@@ -39,7 +36,7 @@ returns-in-Vsync-clause-err g c = λ scene may shown.
     let cut =
     subst (λ (r : VsyncReport). OnErr c.show_vsync.result (WritesPart (g.K.Sink.taken c.args.sink.now) (g.K.Sink.taken c.show_vsync.new.sink) (vsync_shown (picture_at scene.pictures) c.args.plan.now c.args.timelines.now r c.handler.result.now.tree.layers)))
     c.into_report.ensures
-    (c.show_vsync.ensures.err (picture_at scene.pictures) (expected_told scene c.args.plan.now c.in-Vsync.report c.args.player.now c.handler.result.now tells c.handler.ensures.handler) shown) in
+    (c.show_vsync.ensures.err (picture_at scene.pictures) (expected_told scene c.args.plan.now c.args.player.now c.handler.result.now tells c.handler.ensures.handler) shown) in
     subst (λ (t : Action). OnErr c.show_vsync.result (WritesPart (g.K.Sink.taken c.args.sink.now) (g.K.Sink.taken c.show_vsync.new.sink) (action_written (picture_at scene.pictures) c.args.plan.now c.args.timelines.now c.args.player.now t)))
     (sym c.in-Vsync.is) (rw c.handler.ensures.handler at cut)
 

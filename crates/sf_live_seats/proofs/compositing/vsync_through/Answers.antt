@@ -3,5 +3,5 @@ use Rattle.sf_live_seats.proofs.compositing.vsync_through.Goals as goal
 
 pub returns-clause-goes : goal.returns-clause-goes
 returns-clause-goes g c =
-    let ends = vsync_ends _ c.args.handler.now c.vsync.new.self c.args.turns.now c.vsync.new.eye c.args.arrived.items c.args.seen.now c.args.expected c.vsync.result c.vsync.ensures.decides c.vsync.ensures.stops in
-    seat_goes_on c.args.turns.now c.vsync.new.eye ends.0 c.vsync.ensures.mark ends.1 c.vsync.ensures.keeps
+    let ends = vsync_ends _ c.args.handler.now c.commit.new.self c.args.turns.now c.commit.new.eye c.args.arrived.items c.args.seen.now c.args.expected c.commit.result c.commit.ensures.decides c.commit.ensures.stops in
+    seat_goes_on c.args.turns.now c.commit.new.eye ends.0 c.commit.ensures.mark ends.1 c.commit.ensures.keeps

@@ -1,0 +1,4 @@
+pub mod OrderSoFar
+pub mod Rounds
+pub mod Shown
+pub use Rattle.law_order.specs as law_order
