@@ -1,4 +1,4 @@
-//! Where the buffers of a queue are, told by the calls on it alone: each is in one place.
+//! Where the buffers of a queue are, by the calls on it alone: each is in one place.
 #![tactic(auto)]
 
 ghost use Rattle.std.specs.Prelude.{◌≡◌, ℕ, List, Some};

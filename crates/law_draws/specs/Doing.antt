@@ -10,7 +10,7 @@ use Rattle.law_rights.specs.Ledgers.{IsLedger}
 use Rattle.law_rights.specs.PlaceTries.{PlacesGo}
 use Rattle.law_rights.specs.States.{State, ledger_of}
 
--- One actor changed, by a step more: its names held what its trace told, with the rights that its calls gave; and the step kept the ledger, as
+-- One actor changed, by a step more: its names held what its trace says, with the rights that its calls gave; and the step kept the ledger, as
 -- it made its call, or as rights rested and frames went back. The calls are those of each actor in the whole run.
 pub record DoesIn {B : Type 0} (calls : ℕ → ℕ → List (Call B)) (old new : State B) : Type 0 where
   pub was : ActorOf B

@@ -1,4 +1,4 @@
--- Draws that entered pixels, by where these are, in which turn, and what was queued before: of which no count of leaves has to tell.
+-- Draws that entered pixels, by where these are, in which turn, and what was queued before: for which no count of leaves is needed.
 use Rattle.std.specs.Prelude.{◌≡◌, ℕ, ◌+◌, ◌<◌, ◌≤◌, ◌⊎◌, true, List, ◌∷◌, length, Contains, Some}
 use Rattle.law_rights.specs.sf_commit.Handlers.{HandlerOf}
 use Rattle.law_rights.specs.sf_script_scene.Scene.{SceneValue}

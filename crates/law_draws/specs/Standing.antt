@@ -23,7 +23,7 @@ abbrev pub is_told : PlainReply → Bool
 is_told reply = is_attached reply || is_queued reply
 
 module _ {B : Type 0} where
-  -- the run that the actors of a state tell
+  -- the run of the actors of a state
   abbrev pub run_over : State B → Run
   run_over state = run_in (trace_among state.actors) state
 

@@ -1,7 +1,7 @@
-//! Draws come in turn where a run in threads is joined: what a draw saw of counts has no place in the
-//! order of calls, but the seats that are joined tell all that left. So what the order of calls tells
-//! of draws is kept along it without any count, and the rest follows at the end. It is stated in
-//! specs/; here are laws about it.
+//! Draws come in turn where a run in threads is joined: what a draw saw of counts has no place in
+//! the order of calls, but the seats that are joined know all that left. So what the order of calls
+//! says of draws is kept along it without any count, and the rest follows at the end. It is stated
+//! in specs/; here are laws about it.
 #![tactic(auto)]
 
 mod laws;

@@ -19,7 +19,7 @@ ghost use Rattle.law_images.specs.Counts.{times_in};
 ghost use Rattle.law_images.specs.Seen.{IsSeenIn, that_show};
 ghost use Rattle.law_images.specs.Pixels.{IsPixel, transparent};
 
-/// Each image is opaque: whatever the layers are, the alpha of each pixel is 255. So whoever shows a
+/// Each image is opaque: whatever the layers are, the alpha of each pixel is 255. So who shows a
 /// frame, or keeps a capture, may leave alpha out.
 pub fn every_image_is_opaque()
     ensures { (pictures : ℕ → Picture) (layers : List Layer) (order : List LayerId) (x y : ℤ) → (image_in pictures layers order x y).a ≡ 255 }

@@ -12,7 +12,7 @@ use Rattle.law_threads.specs.law_played.Actors.{IsRelease}
 use Rattle.law_threads.specs.law_played.Histories.{IsReleased, Released, released_on}
 
 module _ {B : Type 0} where
-  -- what its calls tell of a queue
+  -- what its calls make of a queue
   abbrev pub entries_of : QueueMark → List (Made B) → List Entry
   entries_of mark calls = map told_by (own_calls 0 mark calls)
 

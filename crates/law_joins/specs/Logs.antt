@@ -1,4 +1,4 @@
--- What the log of a compositor's vsyncs tells: what it took, and what is shown of it.
+-- What the log of a compositor's vsyncs says: what it took, and what is shown of it.
 use Rattle.std.specs.Prelude.{◌≡◌, ℕ, ◌≤◌, true, if◌then◌else◌, List, [], ◌∷◌, ◌++◌, map, take, All, Contains}
 use Rattle.atomic_table.specs.Seated.{TableId}
 use Rattle.sf_base.specs.Fences.{value_of}
@@ -65,7 +65,7 @@ abbrev pub OnlyFirstTakes : ArrivalCalls → Type 0
 OnlyFirstTakes arriving = (one : Entry Arriving Arrived) → Contains arriving one → is_take one.call ≡ true → one.by ≡ 0
 
 -- All that was sent before a take was taken: what the handler took last is the last that was taken there, and what was taken of the arrivals is
--- what the log tells.
+-- what the log says.
 pub record HasTaken (handler : HandlerOf ReadLeaseOf) (calls : ArrivalCalls) (taken : List (Arrival ReadLeaseOf)) : Type 0 where
   pub last : handler.last ≡ taken_in calls
   pub front : take (taken_in calls) (sent calls) ≡ taken
@@ -105,7 +105,7 @@ module _ {B : Type 0} (lease : Ghosts ReadLeaseOf SeatView ReadLeaseOf Issued) (
   abbrev pub came_in : {start last : Sitting B} → Vsyncs lease table locks period start last → List (Arrival FrameOf)
   came_in log = map plain_arrival (taken_of lease table locks period log)
 
-  -- what is told of the vsyncs of a log
+  -- the record of the vsyncs of a log
   abbrev pub told_in : {start last : Sitting B} → Vsyncs lease table locks period start last → List VsyncAt
   told_in log = told_of scene (came_in log) (reports_of lease table locks period scene log)
 

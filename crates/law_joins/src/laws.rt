@@ -53,8 +53,8 @@ pub fn what_seats_knew_is_known_at_the_join<B: TableName>()
         → (joined : DeskView B) (arriving : ArrivalCalls) → IsKnown joined arriving after.seats → IsKnown joined arriving before.seats }
 {}
 
-/// What a compositor took among threads is what its log tells, up to the last that it took; so it is of
-/// all calls on the arrivals of the run, where nobody else takes.
+/// What a compositor took among threads is what its log says, up to the last that it took; so it is
+/// of all calls on the arrivals of the run, where nobody else takes.
 pub fn what_was_taken_is_what_the_log_tells<B: TableName>()
     ensures log { (table : TableId) (locks : Locks B) (period : ℕ) (arriving : ArrivalCalls) → OnlyFirstTakes arriving
         → (start last : Sitting B) (log : Vsyncs ⟦<ReadLease<B> as Lease>⟧ table locks period start last) → IsBegun start → last.seats.by ≡ 0

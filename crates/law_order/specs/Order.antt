@@ -48,7 +48,7 @@ pub record IsLaterStep (one next : CallAt) : Type 0 where
 
 -- One order. Each call, arrival and vsync has a number. The numbers rise along each history, along the arrivals and along the
 -- vsyncs; along the calls of each actor by its steps, on all queues; from an actor's calls to what it sends in a later step, and,
--- where its arrival is told at once, from there to its calls in later steps; from an arrival to the vsync that commits it; and
+-- where its arrival is reported at once, from there to its calls in later steps; from an arrival to the vsync that commits it; and
 -- from a vsync to its releases, and on to the next vsync.
 pub record InOneOrder (tells : Bool) (all : Happened) : Type 0 where
   pub call : CallAt → ℕ

@@ -37,7 +37,7 @@ pub record IsLedger (l : Ledger) : Type 0 where
   pub one : (buffer : ℕ) → leaves_of buffer l.live ≤ 1
   pub after_left : (turn left : Turn) → Contains l.live turn → Contains l.left left → ComesBefore left turn
   pub after_queued : (turn : Turn) (write : Write) → Contains l.live turn → Contains l.queued write → ComesBefore write.turn turn
-  -- nothing is told of a buffer that was not made
+  -- nothing is said of a buffer that was not made
   pub live_made : (turn : Turn) → Contains l.live turn → Contains l.made turn.0
   pub left_made : (turn : Turn) → Contains l.left turn → Contains l.made turn.0
   pub queued_made : (write : Write) → Contains l.queued write → Contains l.made write.turn.0

@@ -1,4 +1,4 @@
--- What a look at a frame tells, by a ledger.
+-- What a look at a frame shows, by a ledger.
 use Rattle.std.specs.Prelude.{◌≡◌, ℕ, ◌==◌, ◌&&◌, Bool, true, List, Contains}
 use Rattle.std.specs.List.{list_any}
 use Rattle.sf_actor_set.specs.sf_calls.Histories.{IsLegal}

@@ -20,7 +20,7 @@ abbrev pub right_written : WriteLeaseOf → RightAt
 right_written lease = record { turn = turn_by (turn_of lease.work); at = record { queue = lease.queue.0; number = lease.held.number } }
 
 module _ {B : Type 0} where
-  -- the right that a call brings; a loose buffer was last in a queue that the call does not tell
+  -- the right that a call brings; a loose buffer was last in a queue that the call does not name
   abbrev pub brought_at : BufferOf → QCall B → List RightAt
   brought_at from (call.Request lease) = right_written lease ∷ []
   brought_at from (call.Queue lease picture time crop fence) = right_written lease ∷ []

@@ -20,11 +20,11 @@ abbrev pub AreDeclared : SceneValue → List QueueMark → Type 0
 AreDeclared scene marks = All (λ (mark : QueueMark). has_queue scene.queues mark.queue.0 ≡ true) marks
 
 module _ {B : Type 0} where
-  -- the run that these traces and the calls of a state tell
+  -- the run of these traces and the calls of a state
   abbrev pub run_in : (ℕ → List Done) → State B → Run
   run_in trace state = record { trace = trace; calls = λ queue. told (mark_among state.marks queue) (state.view.calls queue) }
 
-  -- Between two calls of a player, the makers of buffers are followed through the run that the actors and their desk tell; all its calls are
+  -- Between two calls of a player, the makers of buffers are followed through the run of the actors and their desk; all its calls are
   -- enough to follow each buffer back.
   abbrev pub MakersPlay : SceneValue → DeskHome → DeskView B → List (ActorOf B) → HandlerOf ReadLeaseOf → Type 0
   MakersPlay scene home view ofs handler = MakersStand (run_of ofs home view) (calls_in scene (run_of ofs home view)) (state_of home view ofs handler)

@@ -42,14 +42,14 @@ module _ {B : Type 0} where
   IsMadeBy run (call.Dequeue width height wait permit) from stay = IsFirst run stay
   IsMadeBy run asked from stay = IsBefore run stay from
 
-  -- a run goes on with a call: a buffer that comes to the queue is new there
+  -- a run goes on with a call, whose step the trace has already: a buffer that comes to the queue is new there
   pub record RunTold (queue : QueueId) (asked : QCall B) (answered : PlainReply) (from : BufferOf) (before after : Run) : Type 0 where
     pub on : GoesOn before after
     pub was_none : (right : RightAt) → IsNewAt queue asked answered right → WasMade before right.at → ⊥
     pub was_made : (right : RightAt) → IsNewAt queue asked answered right → WasMade after right.at
     pub made_by : (right : RightAt) → IsNewAt queue asked answered right → IsMadeBy after asked from right.at
 
--- The calls on a queue of which a run tells, before and after one more; what the traces tell of the buffers that were attached before
+-- The calls on a queue in a run, before and after one more; what the traces say of the buffers that were attached before
 -- is the same, and of one that is attached now, where it was.
 pub record RunGets {B : Type 0} (mark : QueueMark) (made : Made B) (earlier : List (Made B)) (from : BufferOf) (before after : Run) : Type 0 where
   pub old : before.calls mark.queue.0 ≡ told mark earlier

@@ -1,4 +1,4 @@
--- Where each made buffer is or was last, and where it was before: so far the turns at a buffer tell of its maker.
+-- Where each made buffer is or was last, and where it was before: so far the turns at a buffer show its maker.
 use Rattle.std.specs.Prelude.{◌≡◌, ℕ, ◌<◌, ◌≤◌, ◌⊎◌, is_some, true, if◌then◌else◌}
 use Rattle.std.specs.Prelude.{List, [], ◌∷◌, ◌++◌, length, map, Contains, Option, Some, None}
 use Rattle.std.specs.List.{flat_map, range_with_len}
@@ -94,7 +94,7 @@ pub record AreFollowed (run : Run) (most : ℕ) (stays : Stays) (places : Places
       → Rises stays one other
   pub owed : (write : WriteAt) → Contains places.owed write → Contains places.queued write
 
--- a later run tells the same of each buffer of a queue that was made
+-- a later run says the same of each buffer of a queue that was made
 pub record GoesOn (old new : Run) : Type 0 where
   pub made : (stay : BufferOf) → WasMade old stay → WasMade new stay
   pub same : (stay : BufferOf) → WasMade old stay

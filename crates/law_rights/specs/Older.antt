@@ -1,4 +1,4 @@
--- What makers tell of the turns at buffers.
+-- What makers determine of the turns at buffers.
 use Rattle.std.specs.Prelude.{◌≡◌, ◌<◌, true, List, Contains, Some}
 use Rattle.sf_actor_set.specs.sf_actor.declared.holding.Holding.{Holding}
 use Rattle.sf_actor_set.specs.sf_actor.Makers.{BufferOf, Maker, buffer_in, is_before, same_maker}

@@ -24,7 +24,7 @@ use Rattle.law_rights.specs.States.{State, ledger_of}
 abbrev pub loose_at : Holdings → Step → BufferOf → BufferOf
 loose_at holdings s stay = option_map_or (λ name. loose_buffer stay (name_in holdings name)) (used_by s) stay
 
--- what stays of a lease tells where its right is, after a look and after the lease is handed on
+-- what stays of a lease says where its right is, after a look and after the lease is handed on
 abbrev pub TellsPlaces : Ghosts ReadLeaseOf SeatView ReadLeaseOf Issued → Type 0
 TellsPlaces lease = (one other : ReadLeaseOf) → lease.plain one ≡ lease.plain other → (right_read one).at ≡ (right_read other).at
 
@@ -54,7 +54,7 @@ module _ {B : Type 0} where
     pub leases : List ReadLeaseOf
     pub returns : ReturnAll by step leases mid new
 
-  -- the step's call was made; a buffer that it attaches was last where the name that it uses tells
+  -- the step's call was made; a buffer that it attaches was last where the name that it uses says
   pub record CallsIn (holdings : Holdings) (s : Step) (by step : ℕ) (old new : State B) : Type 0 where
     pub queue : ℕ
     pub asked : QCall B

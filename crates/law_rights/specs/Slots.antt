@@ -1,4 +1,4 @@
--- The rights that lie in the slots of a queue, as its calls tell.
+-- The rights that lie in the slots of a queue, as its calls say.
 use Rattle.std.specs.Prelude.{ℕ, Bool, ◌&&◌, ◌||◌, is_some, if◌then◌else◌, List, [], ◌∷◌, Option, Some, None}
 use Rattle.std.specs.List.{flat_map, range_with_len}
 use Rattle.sf_slots.specs.declared.slot.Slot.{Slot}

@@ -10,7 +10,7 @@ use Rattle.sf_actor_set.specs.sf_turns.Counts.{stock_at}
 use Rattle.sf_actor_set.specs.sf_turns.Views.{SeatView}
 use Rattle.sf_actor_set.specs.sf_txn.declared.lease.Lease.{Ghosts}
 use Rattle.sf_actor_set.specs.sf_commit.Handlers.{Decides, HandlerOf}
-use Rattle.sf_actor_set.specs.sf_commit.Releases.{ReleaseOf, VsyncOf}
+use Rattle.sf_actor_set.specs.sf_commit.Releases.{ReleaseOf, CommittedOf}
 use Rattle.sf_actor_set.specs.sf_actor.Desks.{DeskHome, DeskView, MadeCall, has_queue}
 use Rattle.sf_actor_set.specs.sf_actor.Tries.{ActorOf}
 use Rattle.law_rights.specs.Ledgers.{IsLedger}
@@ -71,7 +71,8 @@ module _ {B : Type 0} where
   abbrev pub home_taken : DeskHome → DeskView B → DeskHome
   home_taken home view = record home { taken = length view.arrivals }
 
-  -- A vsync: all that was not yet taken arrives, the compositor decides, and what goes is given back.
+  -- A vsync: all that was not yet taken arrives, the compositor decides, and what goes is given back. Until then the frames that go lie
+  -- with those on layers, as leases alone.
   pub record VsyncIn (lease : Ghosts ReadLeaseOf SeatView ReadLeaseOf Issued) (home : DeskHome) (old : DeskView B) (handler : HandlerOf ReadLeaseOf)
       (new : DeskView B) (after : HandlerOf ReadLeaseOf) : Type 0 where
     pub of_turns : IsOfTurns lease
@@ -80,7 +81,7 @@ module _ {B : Type 0} where
     pub all : arrived ≡ drop home.taken old.arrivals
     pub seen : Seen
     pub expected : ℕ
-    pub told : VsyncOf ReadLeaseOf
+    pub told : CommittedOf ReadLeaseOf
     pub decided : DeskView B
     pub calls : decided.calls ≡ old.calls
     pub arrivals : decided.arrivals ≡ old.arrivals

@@ -11,7 +11,7 @@ use Rattle.sf_actor_set.specs.sf_txn.declared.lease.Lease.{Ghosts}
 use Rattle.sf_actor_set.specs.sf_commit.Handlers.{Decides, HandlerOf}
 use Rattle.sf_actor_set.specs.sf_commit.Lending.{ends_of, left_if, reads_of}
 use Rattle.sf_actor_set.specs.sf_commit.OnLayers.{OnLayer}
-use Rattle.sf_actor_set.specs.sf_commit.Releases.{ReleaseOf, VsyncOf}
+use Rattle.sf_actor_set.specs.sf_commit.Releases.{ReleaseOf, CommittedOf}
 use Rattle.sf_actor_set.specs.sf_actor.Desks.{DeskHome, MadeCall, has_queue}
 use Rattle.sf_actor_set.specs.sf_actor.Rights.{turn_by}
 use Rattle.law_rights.specs.Moves.{turn_after}
@@ -40,7 +40,7 @@ module _ {B : Type 0} where
     pub arrived : List (Arrival ReadLeaseOf)
     pub seen : Seen
     pub expected : ℕ
-    pub told : VsyncOf ReadLeaseOf
+    pub told : CommittedOf ReadLeaseOf
     pub unlent : handler.lent ≡ None
     pub eye : SeatView
     pub next_eye : SeatView

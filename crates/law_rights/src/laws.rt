@@ -1,5 +1,5 @@
 //! Laws about the ledger of rights to pixels: what a call, a try, a vsync or a release does to it,
-//! and what it tells. They are called for their clauses alone.
+//! and what it implies. They are called for their clauses alone.
 ghost use Rattle.std.specs.Prelude.{◌≡◌, ℕ, ◌<◌, ◌≤◌, true, List, All, Contains, map, None, Some, length, slice_get, slice_set};
 ghost use Rattle.std.specs.List.{flat_map};
 ghost use Rattle.sf_actor_set.specs.sf_picture.declared.picture.Picture.{Picture};
@@ -63,7 +63,7 @@ pub fn a_move_keeps_a_ledger()
     ensures { (move : Move) (old new : Ledger) → IsLedger old → MayMove move old → Moves move old new → IsLedger new }
 {}
 
-/// Where all that left is known, a look at a frame that was queued tells whether the frame was
+/// Where all that left is known, a look at a frame that was queued shows whether the frame was
 /// written.
 pub fn a_look_tells_what_was_written()
     ensures { (buffers : ℕ) (seen : List (ℕ × ℕ)) (l : Ledger) (lease : ReadLeaseOf) → IsLedger l → IsExact buffers l.left seen → lease.turn.buffer < buffers
@@ -101,7 +101,7 @@ pub fn a_release_keeps_the_ledger<B: TableName>()
     ensures { (home : DeskHome) (old new : State B) → ReleasesIn home old new → IsLedger (ledger_of old) → IsLedger (ledger_of new) }
 {}
 
-/// A frame that a call acquired was queued, so a look at it tells whether it was written.
+/// A frame that a call acquired was queued, so a look at it shows whether it was written.
 pub fn an_acquired_frame_was_queued<B: TableName>()
     ensures { (state : State B) (lease : ReadLeaseOf) → WasAcquired state.marks state.view.calls lease → IsQueuedFrame (ledger_of state) lease }
 {}
@@ -119,8 +119,8 @@ pub fn a_ledger_stands_at_the_beginning<B: TableName>()
         → LedgerStands buffers home view ofs handler }
 {}
 
-/// Where it stands, the permits that an actor has left made no buffer; and a look at a frame that was
-/// acquired tells whether the frame was written.
+/// Where it stands, the permits that an actor has left made no buffer; and a look at a frame that
+/// was acquired shows whether the frame was written.
 pub fn a_standing_ledger_tells<B: TableName>()
     ensures unmade { (pictures : ℕ → Picture) (buffers : ℕ) (home : DeskHome) (view : DeskView B) (ofs : List (ActorOf B)) (handler : HandlerOf ReadLeaseOf)
         → LedgerStands buffers home view ofs handler → AreOver pictures home view ofs
@@ -143,7 +143,7 @@ pub fn a_step_leaves_the_ledger_standing<B: TableName>()
         → LedgerStands buffers (home_of before) (view_of before) ofs handler → LedgerStands buffers (home_of after) (view_of after) (slice_set ofs place steps.new) handler }
 {}
 
-/// A look at a frame that was acquired tells whether the run has written it.
+/// A look at a frame that was acquired shows whether the run has written it.
 pub fn a_look_tells_what_a_run_has_written<B: TableName>()
     ensures same { (scene : SceneValue) (home : DeskHome) (view : DeskView B) (ofs : List (ActorOf B)) (handler : HandlerOf ReadLeaseOf)
         → IsWithinLimits scene → AreActors scene ofs home view

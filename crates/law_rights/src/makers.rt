@@ -31,8 +31,8 @@ ghost use Rattle.law_rights.specs.Tries.{TriesIn};
 
 use sf_actor_set::{Lease, ReadLease, TableName};
 
-/// Where the ledger of a state stands, and its makers are followed through a run, they tell of the
-/// turns at buffers.
+/// Where the ledger of a state stands, and its makers are followed through a run, they determine
+/// the turns at buffers.
 pub fn makers_that_are_followed_tell<B: TableName>()
     ensures { (run : Run) (most : ℕ) (state : State B) → IsLedger (ledger_of state) → MakersStand run most state → MakersTell (followed most run) state.actors }
 {}
@@ -78,7 +78,7 @@ pub fn a_call_tells_places<B: TableName>()
         → WasIn (places_lying mark earlier ++ brought_at from asked) right ⊎ IsNewAt mark.queue asked (told_reply mark earlier by asked) right }
 {}
 
-/// A call keeps makers followed, where it does to places and to the run what is told of it.
+/// A call keeps makers followed, where it does to places and to the run what its move says.
 pub fn a_call_keeps_makers<B: TableName>()
     ensures { (queue : QueueIdOf) (from : BufferOf) (before after : Run) (most more : ℕ) (stays : Stays) (old new : Places) → most < more → AreFollowed before most stays old
         → (asked : QCall B) (answered : PlainReply) → PlacesTold queue asked answered from old new → RunTold queue asked answered from before after
@@ -111,8 +111,8 @@ pub fn rights_stay_where_they_were<B: TableName>()
         ⊎ IsNewAt (mark_among old.marks queue).queue asked (told_reply (mark_among old.marks queue) (old.view.calls queue) by asked) right }
 {}
 
-/// A call does to the places of a state what is told of it, where each right of a buffer that came to
-/// the queue is there.
+/// A call does to the places of a state what its move says, where each right of a buffer that came
+/// to the queue is there.
 pub fn a_call_does_to_places_what_is_told<B: TableName>()
     ensures { (old new : State B) (by queue step : ℕ) (asked : QCall B) (reply : QReply B) (from : BufferOf)
         → PlaceStep old new by queue step asked reply from → IsLedger (ledger_of old)
@@ -133,7 +133,7 @@ pub fn the_right_of_a_buffer_moves<B: TableName>()
         → Contains (places_of new).live right → right ≡ now }
 {}
 
-/// A call leaves the makers of a state standing, over the run that tells of it.
+/// A call leaves the makers of a state standing, over the run that has it.
 pub fn a_call_leaves_makers_standing<B: TableName>()
     ensures { (old new : State B) (by queue step : ℕ) (asked : QCall B) (reply : QReply B) (from : BufferOf) (before after : Run) (most more : ℕ)
         → PlaceStep old new by queue step asked reply from

@@ -16,8 +16,8 @@ ghost use Rattle.law_rights.specs.Standing.{LedgerStands};
 
 use sf_actor_set::TableName;
 
-/// Where a ledger stands, and makers tell of the turns at buffers, an earlier turn that has not left
-/// is that of an older draw that is owed.
+/// Where a ledger stands, and makers determine the turns at buffers, an earlier turn that has not
+/// left is that of an older draw that is owed.
 pub fn an_earlier_turn_is_an_older_draw<B: TableName>()
     ensures { (pictures : ℕ → Picture) (buffers : ℕ) (home : DeskHome) (before : DeskView B) (ofs : List (ActorOf B)) (handler : HandlerOf ReadLeaseOf)
         → LedgerStands buffers home before ofs handler → AreOver pictures home before ofs → IsExact buffers before.turns.leaves before.turns.seen

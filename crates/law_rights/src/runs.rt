@@ -45,8 +45,8 @@ pub fn a_vsync_leaves_makers_standing<B: TableName>()
         → MakersPlay scene (home_taken home old) new ofs after }
 {}
 
-/// Where they stand, makers tell of the turns at buffers, and a look that shows that an earlier turn
-/// has not left tells of an older draw that is owed.
+/// Where they stand, makers determine the turns at buffers, and where a look shows that an earlier
+/// turn has not left, an older draw is owed.
 pub fn standing_makers_tell<B: TableName>()
     ensures now { (scene : SceneValue) (home : DeskHome) (ofs : List (ActorOf B)) (view : DeskView B) (handler : HandlerOf ReadLeaseOf) (buffers : ℕ)
         → LedgerStands buffers home view ofs handler → MakersPlay scene home view ofs handler → MakersTell (maker_at scene (run_of ofs home view)) ofs }

@@ -17,7 +17,7 @@ abbrev pub last_shown : List VsyncRecords → Option VsyncRecords
 last_shown [] = None
 last_shown (vsync ∷ later) = option_or (last_shown later) (if is_any vsync.shown then Some vsync else None)
 
--- what was shown last is what is due of these layers; where nothing was shown there are none
+-- what was shown last are the outputs due of these layers; where nothing was shown there are none
 abbrev pub ShowsLast : SceneValue → List Layer → Option VsyncRecords → Type 0
 ShowsLast scene layers None = layers ≡ []
 ShowsLast scene layers (Some vsync) = vsync.shown ≡ shown_due (picture_at scene.pictures) (plan_of scene) layers

@@ -27,8 +27,8 @@ pub fn images_of_a_run_are_opaque()
     ensures { (tells : Bool) (scene : SceneValue) (records : List RecordValue) → PlayedWhere tells scene records → All HasOpaqueImage records }
 {}
 
-/// The last vsync of a played run that shows something shows what is due of the tree as it is at the
-/// end of the run. Where no vsync shows anything that tree has no layers.
+/// The last vsync of a played run that shows something shows the outputs due of the tree as it is
+/// at the end of the run. Where no vsync shows anything that tree has no layers.
 pub fn the_last_frame_shows_the_last_tree()
     ensures { (tells : Bool) (scene : SceneValue) (records : List RecordValue) (played : PlayedWhere tells scene records)
         → ShowsLast scene (round_at_end (bare_round scene) (vsyncs_told scene played.arrivals played.shows.events)).stage.tree.layers

@@ -17,7 +17,7 @@ use Rattle.law_draws.specs.sf_txn.Transactions.{Contents, empty}
 use Rattle.law_draws.specs.sf_txn.declared.lease.Lease.{Ghosts}
 use Rattle.law_draws.specs.sf_commit.Handlers.{Decides, HandlerOf}
 use Rattle.law_draws.specs.sf_commit.Lending.{ends_of, left_if, reads_of}
-use Rattle.law_draws.specs.sf_commit.Releases.{VsyncOf}
+use Rattle.law_draws.specs.sf_commit.Releases.{CommittedOf}
 use Rattle.law_draws.specs.sf_actor.Desks.{DeskView}
 use Rattle.law_draws.specs.sf_actor.Rights.{Turn}
 use Rattle.law_draws.specs.sf_actor.Tries.{ActorOf}
@@ -123,7 +123,7 @@ module _ {B : Type 0} where
       omega (arith, a, b)
 
   module _ (lease : Ghosts ReadLeaseOf SeatView ReadLeaseOf Issued) (of_turns : IsOfTurns lease) (tells : TellsPlaces lease) (whole : Whole B) (script : ActorScript) (handler after : HandlerOf ReadLeaseOf) (eye next_eye : SeatView) (arrived : List (Arrival ReadLeaseOf)) (seen : Seen) (expected : ℕ)
-      (told : VsyncOf ReadLeaseOf) (decides : Decides lease handler eye arrived seen expected told after next_eye) (unlent : handler.lent ≡ None)
+      (told : CommittedOf ReadLeaseOf) (decides : Decides lease handler eye arrived seen expected told after next_eye) (unlent : handler.lent ≡ None)
       (more history : ArrivalCalls) (e : Entry Arriving Arrived) (whole_is : whole.arriving ≡ more ++ e ∷ history) (takes : e.call ≡ arrive.Take) (took : arrived ≡ waiting history)
       (others later : List (Local B)) (heights : ℕ → ℕ) (next : length history ≡ heights 0) where
     abbrev was : Local B

@@ -40,7 +40,7 @@ module _ {C R : Type 0} where
   mine by place [] = 0
   mine by place (e ∷ earlier) = bit ((length earlier == place) && (e.by == by)) + mine by place earlier
 
-  -- each call is one of these callers', who are told apart
+  -- each call is one of these callers', who are distinct
   abbrev pub AllOnce : List ℕ → List (Entry C R) → Type 0
   AllOnce bys [] = Unit {0}
   AllOnce bys (e ∷ earlier) = (count_of e.by bys ≡ 1) × AllOnce bys earlier
@@ -51,7 +51,7 @@ module _ {C R : Type 0} where
   stamp_in place (e ∷ earlier) = if length earlier == place then stamp_of e else stamp_in place earlier
 
 module _ {B : Type 0} where
-  -- the whole run, as a desk of one thread tells it at its end
+  -- the whole run, as a desk of one thread has it at its end
   abbrev pub whole_of : PlainOf B → Whole B
   whole_of desk = record { marks = (plain_home desk).marks; view = plain_view desk; arriving = desk.arrivals }
 

@@ -17,7 +17,7 @@ HadRoom (rec.Comm commit) = commit.result ≢ 5
 HadRoom other = Unit {0}
 
 -- where each commit of the play of a scene of version 1 had room, the records of the play are those of the same scene in
--- version 2, but for the version that the first one tells
+-- version 2, except for the version in the first one
 abbrev pub ArePlayedAlike : Type 0
 ArePlayedAlike = (scene : SceneValue) (records : List Record) → IsWithinLimits scene → scene.version ≡ 1 → All HadRoom records
     → ArePlayRecords scene (opening scene ∷ records) → ArePlayRecords (in_version_2 scene) (opening (in_version_2 scene) ∷ records)

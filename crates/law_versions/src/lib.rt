@@ -4,8 +4,8 @@
 
 ghost use Rattle.law_versions.specs.Versions.{ArePlayedAlike};
 
-/// A scene of version 1, of which no commit is rejected for too many layers, has the same records in
-/// version 2, but for the version that the first one tells.
+/// A scene of version 1, of which no commit is rejected for too many layers, has the same records
+/// in version 2, except for the version in the first one.
 pub fn versions_are_played_alike()
     ensures { ArePlayedAlike }
 {}

@@ -91,7 +91,7 @@ abbrev pub about_of : List Text → Option About
 about_of (word ∷ []) = about_named word
 about_of _ = None
 
--- the options were given, or refused where there are none; want of memory tells nothing
+-- the options were given, or refused where there are none; out of memory says nothing
 abbrev pub GivesOptions : Result Options OptionsFault → Option Options → Type 0
 GivesOptions (Ok options) asked = asked ≡ Some options
 GivesOptions (Err WrongWords) asked = asked ≡ None

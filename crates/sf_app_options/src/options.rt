@@ -24,9 +24,9 @@ pub enum Run {
 /// How transactions arrive in a live run.
 #[derive(Clone, Copy)]
 pub enum Intake {
-    /// In calls under one lock; a sender is told its place.
+    /// In calls under one lock; a sender learns its place.
     Lock,
-    /// Through a queue that takes them without a lock; a sender is told no place.
+    /// Through a queue that takes them without a lock; a sender learns no place.
     Queue,
 }
 

@@ -1,6 +1,6 @@
 //! The plain types that every crate of the compositor speaks of: ids, rectangles, pixels and
 //! their blending, the formats of buffers, pixels in bytes, fences and what was observed of
-//! timelines, the statuses of a queue's calls, want of memory, and lists in public structs.
+//! timelines, the statuses of a queue's calls, the error out of memory, and lists in public structs.
 //! Nothing here takes memory but the push of such a list, and the points of fences.
 #![tactic(auto)]
 

@@ -1,7 +1,7 @@
-//! Want of memory, which any call that takes some may answer.
+//! The error of a call that runs out of memory.
 use std::alloc::{AllocError, AllocFailed};
 
-/// Want of memory. A call that answers it has changed nothing, and hands back what it was given.
+/// Out of memory. A call that answers it has changed nothing, and hands back what it was given.
 #[derive(Clone, Copy)]
 pub struct NoMemory;
 

@@ -97,7 +97,7 @@ impl<O: Object> Object for Stamped<O> {
     }
 
     /// Makes a call, and stamps it. Where the greatest stamp is reached, the call comes back as for
-    /// want of memory.
+    /// out of memory.
     fn apply(&mut self, by: u32, call: (u64, O::Call)) -> Outcome<(u64, O::Call), (u64, O::Reply)> {
         let (brought, asked) = call;
         let before = brought.max(self.newest);

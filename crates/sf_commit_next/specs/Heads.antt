@@ -9,7 +9,7 @@ use Rattle.sf_ready.specs.declared.hold.Hold.{Hold}
 use Rattle.sf_token.specs.Pending.{Arrival, head_of}
 
 module _ {L : Type 0} (drawn : L → Bool) (seen : Seen) (expected : ℕ) where
-  -- why the first transaction of a token waits, where `drawn` tells of a lease whether its write has ended
+  -- why the first transaction of a token waits, where `drawn` says of a lease whether its write has ended
   abbrev pub head_hold : FactsOf → Arrival L → Option Hold
   head_hold facts arrived = hold_of arrived.txn (map (λ (buffer : Buffer L). drawn buffer.lease) arrived.txn.buffers) facts seen expected
 

@@ -37,7 +37,7 @@ impl Asking {
         }
     }
 
-    /// The numbers of the tokens rise. It tells so, and does nothing.
+    /// States that the numbers of the tokens rise, and does nothing.
     pub fn rises(&self)
         ensures { IsStrictlySortedBy nat_cmp self.now }
     {

@@ -13,9 +13,9 @@ use crate::layer::{copy_layer, paint_area};
 use crate::pixels::Pixels;
 use sf_damage::sf_view::Drawn;
 
-/// Begins an area under drawn layers, and tells from which of them on it is still to be painted: from
-/// the topmost one that hides all of it, or behind that one where its pixels were copied. Where none
-/// hides it, the area is black, and all of them are to be painted.
+/// Begins an area under drawn layers, and returns from which of them on it is still to be painted:
+/// from the topmost one that hides all of it, or behind that one where its pixels were copied.
+/// Where none hides it, the area is black, and all of them are to be painted.
 pub fn begin<C: Pixels>(
     layers: &[Drawn],
     contents: &[C],

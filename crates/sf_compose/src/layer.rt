@@ -81,8 +81,8 @@ fn paint_crop_row(
     );
 }
 
-/// Copies the points of such a row, and tells whether all of them hide what was there. If not, some of
-/// them may be copied.
+/// Copies the points of such a row, and returns whether all of them hide what was there. If not,
+/// some of them may be copied.
 fn copy_crop_row(
     picture: &Painted,
     crop: Crop,
@@ -133,7 +133,7 @@ fn paint_crop(picture: &Painted, crop: Crop, frame: &mut [u8], band: Band, area:
     }
 }
 
-/// Copies a crop over an area that it covers, and tells whether each of its pixels hides what was
+/// Copies a crop over an area that it covers, and returns whether each of its pixels hides what was
 /// there. If not, some of them may be copied.
 fn copy_crop(picture: &Painted, crop: Crop, frame: &mut [u8], band: Band, area: Area) -> bool
     requires crop { LiesWithin crop.rect picture.now.width picture.now.height }
@@ -239,8 +239,8 @@ pub fn paint_layer<C: Pixels>(
     }
 }
 
-/// Copies what a drawn layer shows of a buffer over an area that its box has, and tells whether each
-/// of its pixels hides what was there. If not, some of them may be copied.
+/// Copies what a drawn layer shows of a buffer over an area that its box has, and returns whether
+/// each of its pixels hides what was there. If not, some of them may be copied.
 fn copy_buffer(
     picture: &Painted,
     shown: Shown,
@@ -278,8 +278,8 @@ fn copy_buffer(
     }
 }
 
-/// Copies what a drawn layer shows over an area, and tells whether it hides what was there at each
-/// point of it. If not, some points of the area may be copied.
+/// Copies what a drawn layer shows over an area, and returns whether it hides what was there at
+/// each point of it. If not, some points of the area may be copied.
 pub fn copy_layer<C: Pixels>(
     drawn: &Drawn,
     contents: &[C],

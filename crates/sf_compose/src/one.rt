@@ -32,7 +32,7 @@ use std::alloc::Global;
 ///
 /// Each rectangle of the part is composed in slices of rows, which stay in a processor's cache until
 /// the last layer is painted. In each slice the layers are painted from the topmost one that hides
-/// all of it, or over black where none does. After want of memory the frame is as it was.
+/// all of it, or over black where none does. After running out of memory the frame is as it was.
 pub fn compose_one<C: Pixels>(
     _alloc: Global,
     view: &View,

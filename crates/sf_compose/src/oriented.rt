@@ -198,8 +198,8 @@ fn paint_oriented_row(
     );
 }
 
-/// Copies the points of such a row, and tells whether all of them hide what was there. If not, some
-/// of them may be copied.
+/// Copies the points of such a row, and returns whether all of them hide what was there. If not,
+/// some of them may be copied.
 fn copy_oriented_row(
     picture: &Painted,
     oriented: Oriented,
@@ -254,8 +254,8 @@ fn paint_oriented_rows(
     }
 }
 
-/// Copies an oriented crop over an area that its box has, row by row, and tells whether each of its
-/// pixels hides what was there. If not, some of them may be copied.
+/// Copies an oriented crop over an area that its box has, row by row, and returns whether each of
+/// its pixels hides what was there. If not, some of them may be copied.
 fn copy_oriented_rows(
     picture: &Painted,
     oriented: Oriented,
@@ -351,8 +351,8 @@ pub fn paint_oriented(
     }
 }
 
-/// Copies an oriented crop over an area that its box has, some columns after others, and tells whether
-/// each of its pixels hides what was there. If not, some of them may be copied.
+/// Copies an oriented crop over an area that its box has, some columns after others, and returns
+/// whether each of its pixels hides what was there. If not, some of them may be copied.
 pub fn copy_oriented(
     picture: &Painted,
     oriented: Oriented,

@@ -4,7 +4,8 @@ ghost use Rattle.sf_base.specs.Geometry.{covers, LiesWithin};
 ghost use Rattle.sf_base.specs.Paint.{painted};
 ghost use Rattle.sf_base.specs.declared.pixel.Rgba.{Rgba as RgbaValue};
 ghost use Rattle.sf_compose.specs.inner.Bands.{HasRows, IsInBand};
-ghost use Rattle.sf_compose.specs.inner.Painting.{is_in_area, Paints, PaintsSpan};
+ghost use Rattle.sf_compose.specs.inner.Painting.{is_in_area, PaintsSpan};
+ghost use Rattle.sf_compose.specs.inner.Moving.{Moves};
 ghost use Rattle.sf_compose.specs.inner.Orientations.{pixel_shown};
 ghost use Rattle.sf_damage.specs.sf_picture.Solid.{IsSolid};
 ghost use Rattle.sf_damage.specs.sf_view.Boxes.{box_of, is_sideways};
@@ -60,8 +61,7 @@ fn move_oriented_rows(
     requires inside { (x y : ℕ) → is_in_area area x y ≡ true → covers (box_of oriented.crop oriented.orient oriented.place) (pos x) (pos y) ≡ true }
     requires within { IsInBand band area }
     requires room { HasRows band frame.old }
-    ensures { (opaque : Bool) (below : ℕ → ℕ → RgbaValue → RgbaValue) → Paints band.width band.top (is_in_area area) (λ x y under.
-        painted (below x y under) (source_of opaque (pixel_shown picture.now oriented.crop oriented.orient oriented.place (pos x) (pos y))) 255) frame.old frame.new }
+    ensures { Moves picture.now oriented band area frame.old frame.new }
 {
     for y in area.top..area.bottom {
         let start = row_start(band, y);
@@ -89,8 +89,7 @@ fn move_four_rows(picture: &Painted, oriented: Oriented, frame: &mut [u8], band:
     requires inside { (x y : ℕ) → is_in_area area x y ≡ true → covers (box_of oriented.crop oriented.orient oriented.place) (pos x) (pos y) ≡ true }
     requires within { IsInBand band area }
     requires room { HasRows band frame.old }
-    ensures { (opaque : Bool) (below : ℕ → ℕ → RgbaValue → RgbaValue) → Paints band.width band.top (is_in_area area) (λ x y under.
-        painted (below x y under) (source_of opaque (pixel_shown picture.now oriented.crop oriented.orient oriented.place (pos x) (pos y))) 255) frame.old frame.new }
+    ensures { Moves picture.now oriented band area frame.old frame.new }
 {
     let back = is_back_across(oriented.orient);
     let row = lowest_row(back, area.top);
@@ -116,8 +115,7 @@ fn move_fours(picture: &Painted, oriented: Oriented, frame: &mut [u8], band: Ban
     requires inside { (x y : ℕ) → is_in_area area x y ≡ true → covers (box_of oriented.crop oriented.orient oriented.place) (pos x) (pos y) ≡ true }
     requires within { IsInBand band area }
     requires room { HasRows band frame.old }
-    ensures { (opaque : Bool) (below : ℕ → ℕ → RgbaValue → RgbaValue) → Paints band.width band.top (is_in_area area) (λ x y under.
-        painted (below x y under) (source_of opaque (pixel_shown picture.now oriented.crop oriented.orient oriented.place (pos x) (pos y))) 255) frame.old frame.new }
+    ensures { Moves picture.now oriented band area frame.old frame.new }
 {
     if area.left >= area.right {
         return;
@@ -143,8 +141,7 @@ fn move_rest(picture: &Painted, oriented: Oriented, frame: &mut [u8], band: Band
     requires inside { (x y : ℕ) → is_in_area area x y ≡ true → covers (box_of oriented.crop oriented.orient oriented.place) (pos x) (pos y) ≡ true }
     requires within { IsInBand band area }
     requires room { HasRows band frame.old }
-    ensures { (opaque : Bool) (below : ℕ → ℕ → RgbaValue → RgbaValue) → Paints band.width band.top (is_in_area area) (λ x y under.
-        painted (below x y under) (source_of opaque (pixel_shown picture.now oriented.crop oriented.orient oriented.place (pos x) (pos y))) 255) frame.old frame.new }
+    ensures { Moves picture.now oriented band area frame.old frame.new }
 {
     if area.left >= area.right || area.top >= area.bottom {
         return;
@@ -164,8 +161,7 @@ fn move_sideways(picture: &Painted, oriented: Oriented, frame: &mut [u8], band: 
     requires inside { (x y : ℕ) → is_in_area area x y ≡ true → covers (box_of oriented.crop oriented.orient oriented.place) (pos x) (pos y) ≡ true }
     requires within { IsInBand band area }
     requires room { HasRows band frame.old }
-    ensures { (opaque : Bool) (below : ℕ → ℕ → RgbaValue → RgbaValue) → Paints band.width band.top (is_in_area area) (λ x y under.
-        painted (below x y under) (source_of opaque (pixel_shown picture.now oriented.crop oriented.orient oriented.place (pos x) (pos y))) 255) frame.old frame.new }
+    ensures { Moves picture.now oriented band area frame.old frame.new }
 {
     let right = area.right - (area.right - area.left) % 4;
     let bottom = area.bottom - (area.bottom - area.top) % 4;
@@ -199,8 +195,7 @@ fn move_block(picture: &Painted, oriented: Oriented, frame: &mut [u8], band: Ban
     requires inside { (x y : ℕ) → is_in_area area x y ≡ true → covers (box_of oriented.crop oriented.orient oriented.place) (pos x) (pos y) ≡ true }
     requires within { IsInBand band area }
     requires room { HasRows band frame.old }
-    ensures { (opaque : Bool) (below : ℕ → ℕ → RgbaValue → RgbaValue) → Paints band.width band.top (is_in_area area) (λ x y under.
-        painted (below x y under) (source_of opaque (pixel_shown picture.now oriented.crop oriented.orient oriented.place (pos x) (pos y))) 255) frame.old frame.new }
+    ensures { Moves picture.now oriented band area frame.old frame.new }
 {
     if is_sideways(oriented.orient) {
         move_sideways(picture, oriented, frame, band, area);
@@ -225,8 +220,7 @@ pub fn move_oriented(
     requires inside { (x y : ℕ) → is_in_area area x y ≡ true → covers (box_of oriented.crop oriented.orient oriented.place) (pos x) (pos y) ≡ true }
     requires within { IsInBand band area }
     requires room { HasRows band frame.old }
-    ensures { (opaque : Bool) (below : ℕ → ℕ → RgbaValue → RgbaValue) → Paints band.width band.top (is_in_area area) (λ x y under.
-        painted (below x y under) (source_of opaque (pixel_shown picture.now oriented.crop oriented.orient oriented.place (pos x) (pos y))) 255) frame.old frame.new }
+    ensures { Moves picture.now oriented band area frame.old frame.new }
 {
     let columns = columns_at_once(oriented.orient);
     let mut left = area.left;

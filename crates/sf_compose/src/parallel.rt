@@ -38,9 +38,9 @@ fn work_of_seen(workers: u32, view: &View, shows: &[Region], part: &Region) -> u
 }
 
 /// Composes a view into a part of a frame as `compose_one` does, with the same bytes, in at most as
-/// many threads as there are workers, 1 to 16: each has a band of the frame's rows. Where too little is
-/// painted for a thread to be worth its start, none is started. After want of memory the frame is as
-/// it was.
+/// many threads as there are workers, 1 to 16: each has a band of the frame's rows. Where too
+/// little is painted for a thread to be worth its start, none is started. After running out of
+/// memory the frame is as it was.
 pub fn compose<R: Threads + Sync, C: Pixels + Sync>(
     rt: &R,
     workers: u32,
@@ -76,8 +76,8 @@ pub fn compose<R: Threads + Sync, C: Pixels + Sync>(
     Ok(())
 }
 
-/// Composes a view into a part of a frame, with the same bytes as `compose`. Told what shows of each
-/// layer, it leaves out the rest to save time; its contract speaks of the bytes alone.
+/// Composes a view into a part of a frame, with the same bytes as `compose`. Given what shows of
+/// each layer, it leaves out the rest to save time; its contract speaks of the bytes alone.
 pub fn compose_seen_by<R: Threads + Sync, C: Pixels + Sync>(
     rt: &R,
     workers: u32,

@@ -197,7 +197,7 @@ pub fn compose_band_seen<C: Pixels>(
 /// the points of the part has those that no opaque layer above hides, as `sf_damage::visible` gives it.
 /// Where a layer's pixels are moved as they are, and a slice of it is moved faster as a whole than in
 /// many rectangles, all of that slice is painted, and the layers above paint over what does not show.
-/// After want of memory the frame is as it was.
+/// After running out of memory the frame is as it was.
 pub fn compose_seen<C: Pixels>(
     _alloc: Global,
     view: &View,

@@ -25,8 +25,8 @@ fn copy_blocks(dst: &mut [u8], src: &[u8]) -> usize
     at / 4
 }
 
-/// Copies a row of pixels over another of the same length, as long as their alphas are 255, and tells
-/// whether that is all of them.
+/// Copies a row of pixels over another of the same length, as long as their alphas are 255, and
+/// returns whether that is all of them.
 pub fn copy_solid(dst: &mut [u8], src: &[u8]) -> bool
     requires same { length src.now ≡ length dst.old }
     requires whole { length dst.old % 4 ≡ 0 }

@@ -87,8 +87,8 @@ pub fn move_part(frame: &mut [u8], to: usize, pixels: &[u8], from: usize, count:
     );
 }
 
-/// Copies pixels over those from one number on and before another, and tells whether all of them hide
-/// what was there. If not, some of them may be copied.
+/// Copies pixels over those from one number on and before another, and returns whether all of them
+/// hide what was there. If not, some of them may be copied.
 pub fn copy_pixels(frame: &mut [u8], start: usize, end: usize, row: &[u8]) -> bool
     requires ordered { start ≤ end }
     requires within { 4 * end ≤ length frame.old }

@@ -18,7 +18,7 @@ fn all_have(layers: &[Drawn], window: &Rect) -> bool
     layers.iter().all(|drawn| rect_has(&drawn.clip, window))
 }
 
-/// Whether two lists have the same layers, but for their clips, in the same order.
+/// Whether two lists have the same layers, except for their clips, in the same order.
 fn have_same_sheets(olds: &[Drawn], news: &[Drawn]) -> bool
     ensures { IsTrue result ↔ (map sheet_of olds.now ≡ map sheet_of news.now) }
 {
@@ -35,7 +35,7 @@ fn have_same_sheets(olds: &[Drawn], news: &[Drawn]) -> bool
     true
 }
 
-/// Whether none of the layers is the same as this one but for its clip.
+/// Whether none of the layers is the same as this one except for its clip.
 fn lack_sheet(layers: &[Drawn], drawn: &Drawn) -> bool
     ensures { IsTrue result → All (λ other. sheet_of other ≢ sheet_of drawn.now) layers.now }
 {

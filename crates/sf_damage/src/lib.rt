@@ -1,8 +1,8 @@
 //! What of a display has to be painted anew, and what of each layer shows: the points at which two
 //! views have different stacks, and the part of each layer that no opaque layer above it hides.
 //!
-//! A frame is composed over the one before it: only where something changed, and of each layer only
-//! what shows.
+//! A frame is composed over the one before it: only where something changed, and of most layers
+//! only what shows.
 #![tactic(auto)]
 
 mod bounds;

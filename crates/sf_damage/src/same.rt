@@ -30,7 +30,7 @@ fn manner(drawn: &Drawn) -> (LayerId, (i32, i32), u8, bool, u8)
     )
 }
 
-/// Whether two drawn layers are the same but for their clips.
+/// Whether two drawn layers are the same except for their clips.
 pub fn has_same_sheet(one: &Drawn, other: &Drawn) -> bool
     ensures { IsTrue result ↔ (sheet_of one.now ≡ sheet_of other.now) }
 {

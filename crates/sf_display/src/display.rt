@@ -72,7 +72,7 @@ fn order_on(
 /// 1,024: the drawn layers of the tree that are on the stack, in order. A layer is on the stack that is
 /// declared for the layer on the way up from it, itself included, that hangs from the root: the second
 /// number of the first pair whose first number is that layer's. Where none is declared it is on stack 0.
-/// Only want of memory refuses it.
+/// Its only error is out of memory.
 pub fn display_view(
     alloc: Global,
     tree: &Tree,

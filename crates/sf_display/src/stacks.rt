@@ -17,7 +17,7 @@ fn is_of_layer(tree: &Tree, stack: (u32, u32)) -> bool
 }
 
 /// Of these stacks those that are declared for layers of the tree: by them each stack has the same
-/// layers. There may be far more stacks than layers, so whoever views several displays asks for these
+/// layers. There may be far more stacks than layers, so who views several displays asks for these
 /// once.
 pub fn stacks_in(
     alloc: Global,

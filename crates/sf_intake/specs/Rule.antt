@@ -1,4 +1,4 @@
--- What holds between any two atomic steps at an intake, and what each kind of step tells the pass
+-- What holds between any two atomic steps at an intake, and what each kind of step shows the pass
 -- that makes it. The queue holds what was sent and not taken yet, the oldest first.
 use Rattle.std.specs.Prelude.{◌≡◌, ℕ, ◌*◌, ◌≤◌, true, false, List, [], ◌∷◌, ◌++◌, length, Contains}
 use Rattle.std.specs.List.{All}
@@ -10,13 +10,13 @@ use Rattle.sf_intake.specs.declared.protocol.Knows.{Knows}
 
 module _ {L : Type 0} where
   -- What holds of the pass j, where `all` was sent in this order, `taken` is the beginning of it that was
-  -- taken, `made` has the numbers of all senders, and `seat` tells the pass of each.
+  -- taken, `made` has the numbers of all senders, and `seat` says the pass of each.
   pub record Fits (made : List ℕ) (seat : ℕ → ℕ) (taken all : List (Post L)) (j : ℕ) (v : Knows (Post L)) : Type 0 where
     -- the taker knows what was taken, and of which numbers senders were made
     pub taker : v.is_taker ≡ true → (j ≡ 0) × (v.taken ≡ taken) × (v.made ≡ made)
     -- a sender has a number of its own, and knows what was sent under it
     pub sender : v.sends ≡ true → Contains made v.by × (seat v.by ≡ j) × (v.sent ≡ posts_by v.by all)
-    -- what a pass was told that was taken, was; what it heard that a sender sent, was sent first by it
+    -- what a pass learned that was taken, was; what it heard that a sender sent, was sent first by it
     pub told : Begins v.taken taken
     pub heard : (p : ℕ × List (Post L)) → Contains v.heard p → Begins p.1 (posts_by p.0 all)
 
@@ -55,14 +55,14 @@ module _ {L : Type 0} where
   abbrev pub drawn : Post L → Knows (Post L) → Knows (Post L)
   drawn post v = record v { taken = v.taken ++ post ∷ [] }
 
-  -- what a sender tells of what it sent, and the taker's pass that heard it
+  -- what a sender says of what it sent, and the taker's pass that heard it
   abbrev pub note : Knows (Post L) → Knows (Post L)
   note v = record { is_taker = false; sends = false; by = 0; sent = []; made = []; taken = []; heard = (v.by, v.sent) ∷ [] }
 
   abbrev pub hearing : Knows (Post L) → Knows (Post L) → Knows (Post L)
   hearing v w = record v { heard = w.heard ++ v.heard }
 
-  -- what the taker tells of what it took, and the sender's pass that was told it
+  -- what the taker says of what it took, and the sender's pass that learned it
   abbrev pub tale : Knows (Post L) → Knows (Post L)
   tale v = record { is_taker = false; sends = false; by = 0; sent = []; made = []; taken = v.taken; heard = [] }
 
@@ -85,7 +85,7 @@ module _ {L : Type 0} where
   abbrev pub FindsNone : Knows (Post L) → List (Post L) → Type 0
   FindsNone v items = items ≡ [] → IsDry v
 
-  -- a look by a sender: of what it was told that was taken, its own is what it sent first
+  -- a look by a sender: of what it learned that was taken, its own is what it sent first
   abbrev pub IsAhead : Knows (Post L) → Type 0
   IsAhead v = Begins (posts_by v.by v.taken) v.sent
 

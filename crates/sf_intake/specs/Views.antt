@@ -107,7 +107,7 @@ module _ {L : Type 0} where
     pub first : Begins old.waiting new.waiting
     pub empties : old.empties ≤ new.empties
 
-  -- what is told of each transaction that a taker gives, where it gave so many before
+  -- what is said of each transaction that a taker gives, where it gave so many before
   pub record AreGiven (holds : L → Type 0) (made : List ℕ) (earlier : ℕ) (list : List (Arrival L)) : Type 0 where
     pub numbers : IsNumberedFrom (earlier + 1) list
     pub theirs : All (λ (arrived : Arrival L). Contains made arrived.actor.0) list

@@ -34,7 +34,7 @@ impl<L: Lease, N: LeaseHome<L>> Model for Intake<L, N> {
 
 impl<L: Lease, N: LeaseHome<L>> Intake<L, N> {
     /// An intake through which nothing came yet, and the one right to take from it. `N` says which leases
-    /// are sent through it. Only want of memory refuses it.
+    /// are sent through it. Its only error is out of memory.
     pub fn open(alloc: Global) -> Result<(Intake<L, N>, Taker<L, N>), NoMemory>
         ensures { IfOk result (λ opened. opened.1 ≡ first_taker opened.0) }
     {

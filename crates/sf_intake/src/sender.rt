@@ -31,9 +31,9 @@ impl<L: Lease> Model for Sender<L> {
 }
 
 impl<L: Lease> Sender<L> {
-    /// From now on what is sent carries this stamp, or a greater one that was given before. A client
-    /// whose last call on another shared object has a stamp gives it before it sends, so that whoever
-    /// takes the transaction can put what follows from it behind that call.
+    /// From now on what is sent carries this stamp, or a greater one that was given before. A
+    /// client whose last call on another shared object has a stamp gives it before it sends, so
+    /// that the taker of the transaction can put what follows from it behind that call.
     pub fn stamp_from(&mut self, stamp: u64)
         ensures { self.new ≡ stamped_from stamp self.old }
     {
@@ -43,7 +43,7 @@ impl<L: Lease> Sender<L> {
 
 impl<L: Lease + Drop> Sender<L> {
     /// Sends a transaction, which was applied at this step of the client. Its leases fit the intake.
-    /// A sender sends at most 16,777,216 of them. Want of memory hands the transaction back, and the
+    /// A sender sends at most 16,777,216 of them. Out of memory hands the transaction back, and the
     /// sender is as it was.
     pub fn send<R: Wait, N: LeaseHome<L>>(
         &mut self,

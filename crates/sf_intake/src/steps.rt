@@ -25,7 +25,7 @@ impl<L: Lease + Drop, N: LeaseHome<L>> Intake<L, N> {
         self.queue.another::<Make<S>>(taker)
     }
 
-    /// A sender puts a transaction into the queue. Want of memory hands it back.
+    /// A sender puts a transaction into the queue. Out of memory hands it back.
     pub(crate) fn push<R: Wait>(
         &self,
         rt: &R,
@@ -70,7 +70,7 @@ impl<L: Lease + Drop, N: LeaseHome<L>> Intake<L, N> {
         self.queue.absorb::<Note>(taker, heard);
     }
 
-    /// A sender is told what was taken: its own of it is what it sent first.
+    /// A sender learns what was taken: its own of it is what it sent first.
     pub(crate) fn compare<R: Wait>(
         &self,
         rt: &R,

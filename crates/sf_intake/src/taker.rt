@@ -111,8 +111,8 @@ impl<L: Lease + Drop, N: LeaseHome<L>> Taker<L, N> {
         intake.hear(&mut self.pass, &mut sender.pass);
     }
 
-    /// Nothing is done but a look at the queue. It tells that of what was taken, this sender's is what it
-    /// sent first, in its order, each once.
+    /// Nothing is done but a look at the queue. It shows that of what was taken, this sender's is
+    /// what it sent first, in its order, each once.
     pub fn compare<R: Wait>(&mut self, intake: &Intake<L, N>, rt: &R, sender: &mut Sender<L>)
         requires own { self.old.intake ≡ intake.now }
         requires theirs { sender.old.intake ≡ intake.now }
@@ -206,7 +206,7 @@ impl<L: Lease + Drop, N: LeaseHome<L>> Taker<L, N> {
 
     /// The transactions that arrived since the last call, at most 4,096, numbered on from the last one.
     /// What was taken before a refusal stands first. There are fewer only where a pop of this call found
-    /// the queue empty. Want of memory keeps what was taken for the next answer.
+    /// the queue empty. Out of memory keeps what was taken for the next answer.
     pub fn take<R: Wait>(
         &mut self,
         intake: &Intake<L, N>,
@@ -249,7 +249,7 @@ impl<L: Lease + Drop, N: LeaseHome<L>> Taker<L, N> {
         }
     }
 
-    /// Tells of each of these senders that of what was taken, its own is what it sent first.
+    /// Shows for each of these senders that of what was taken, its own is what it sent first.
     fn compare_each<R: Wait>(&mut self, intake: &Intake<L, N>, rt: &R, senders: &mut [Sender<L>])
         requires own { self.old.intake ≡ intake.now }
         requires theirs { All (λ sender. sender.intake ≡ intake.now) senders.old }
@@ -264,7 +264,7 @@ impl<L: Lease + Drop, N: LeaseHome<L>> Taker<L, N> {
 
     /// Takes the rest, once all has been sent: these are all the senders. What was given before and this
     /// list have of each sender exactly what it sent, in its order, each once, and nothing waits then.
-    /// Intake, taker and senders stay, so more can be sent and taken. Want of memory gives nothing, and
+    /// Intake, taker and senders stay, so more can be sent and taken. Out of memory gives nothing, and
     /// keeps what was taken for the next answer.
     pub fn take_rest<R: Wait>(
         &mut self,
@@ -286,7 +286,7 @@ impl<L: Lease + Drop, N: LeaseHome<L>> Taker<L, N> {
     }
 
     /// Takes the rest, once all has been sent: these are all the senders. What was given before and this
-    /// list have of each sender exactly what it sent, in its order, each once. Want of memory hands
+    /// list have of each sender exactly what it sent, in its order, each once. Out of memory hands
     /// everything back, with what was taken for the next answer.
     pub fn finish<R: Wait>(
         self,

@@ -56,8 +56,8 @@ fn flush_through<T: Write>(writer: &mut T) -> Result<(), Failed>
     Err(Failed)
 }
 
-/// A source over any reader of std, such as standard input. It tells the bytes that are left where
-/// the reader does. A read that a signal interrupts is tried again. What a real file, pipe or terminal
+/// A source over any reader of std, such as standard input. It says which bytes are left where the
+/// reader does. A read that a signal interrupts is tried again. What a real file, pipe or terminal
 /// gives is not known to any proof.
 #[derive(Drop)]
 pub struct ReadSource<T: Read> {
@@ -106,9 +106,9 @@ impl<T: Read> Source for ReadSource<T> {
     }
 }
 
-/// A sink over any writer of std, such as standard output. It tells the bytes that were taken
-/// where the writer does. A write that a signal interrupts is tried again; a writer that takes nothing
-/// of a piece that is not empty has failed.
+/// A sink over any writer of std, such as standard output. It says which bytes were taken where the
+/// writer does. A write that a signal interrupts is tried again; a writer that takes nothing of a
+/// piece that is not empty has failed.
 #[derive(Drop)]
 pub struct WriteSink<T: Write> {
     inner: T,

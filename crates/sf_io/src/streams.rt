@@ -16,7 +16,7 @@ pub enum ReadFault {
     Failed,
     /// The source has more bytes than the limit.
     TooLong,
-    /// Want of memory.
+    /// Out of memory.
     NoMemory,
 }
 

@@ -11,7 +11,7 @@ pub struct Failed;
 
 /// A source of bytes that counts its faults.
 pub trait Source {
-    /// The bytes that are left, where the source tells them.
+    /// The bytes that are left, where the source says which.
     ghost left: { Self → Option (List ℕ) };
 
     /// How often it has failed. The count never falls; one that stands at 2^64 - 1 counts as risen.
@@ -28,7 +28,7 @@ pub trait Source {
 
 /// A sink of bytes that counts its faults.
 pub trait Sink {
-    /// The bytes that it took, where the sink tells them.
+    /// The bytes that it took, where the sink says which.
     ghost taken: { Self → Option (List ℕ) };
 
     /// How often it has failed. The count never falls; one that stands at 2^64 - 1 counts as risen.

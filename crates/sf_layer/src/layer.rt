@@ -10,7 +10,7 @@ pub struct Layer {
     pub number: LayerId,
     pub kind: Kind,
     pub parent: Parent,
-    /// The layer over or under which it is drawn in place of its parent.
+    /// The layer over or under which it is drawn instead of its parent.
     pub relative: Option<LayerId>,
     /// Its order among the layers drawn with it, the least at the back; below 0 it is drawn
     /// behind the layer that they are drawn with.

@@ -21,7 +21,7 @@ pub enum Op {
     Reparent(Parent),
     /// Sets z. The layer is relative to none then.
     Z(i32),
-    /// Draws the layer with another in place of its parent, with this z.
+    /// Draws the layer with another instead of its parent, with this z.
     Relative(LayerId, i32),
     /// Sets where the layer lies from its parent, in pixels to the right and down, each -16,384
     /// to 16,384.

@@ -1,7 +1,7 @@
 //! The actors of a scene in threads of their own. Each is given seats at what all share, and
-//! tries one step after the other; one that can't go on sleeps until another one has done something.
-//! Meanwhile whoever started them does its own part with the first seats. Once all rest they are
-//! joined, and their seats are taken in.
+//! tries one step after the other; one that can't go on sleeps until another one has done
+//! something. Meanwhile the thread that started them, as a visitor, does its own part with the
+//! first seats. Once all rest they are joined, and their seats are taken in.
 #![tactic(auto)]
 
 mod all_returned;
@@ -27,7 +27,7 @@ pub use sf_actor_steps::{
     Actor, Desk, Lease, PlainDesk, QCall, QueueObject, ReadLease, Reply, settle,
 };
 pub use sf_io::Sink;
-pub use sf_live_seats::{FirstSeats, Handler, Locks, Release, Seats, Vsync};
+pub use sf_live_seats::{Committed, FirstSeats, Handler, Locks, Release, Seats};
 pub use sf_picture::Painted;
 pub use sf_turns::TableName;
 pub use visit::{Ended, Look, Visit};

@@ -24,7 +24,7 @@ const OF_VISIT: Effect = Effect {
     looks: true,
 };
 
-/// A look of whoever starts the threads at all that was done up to some news.
+/// A visitor's look at all that was done up to some news.
 #[derive(Clone, Copy)]
 pub struct Look<'a> {
     pub(crate) watch: &'a Watch,
@@ -32,8 +32,8 @@ pub struct Look<'a> {
 }
 
 impl<'a> Look<'a> {
-    /// Tells threads that wait for it that all was looked at, before the part that follows is over;
-    /// and whether anything was done that may let a thread go on.
+    /// Notifies threads that wait for it that all was looked at, before the part that follows is
+    /// over; and whether anything was done that may let a thread go on.
     pub fn tell<R: Wait>(&self, rt: &R, did: bool) {
         self.watch.tell_looked(rt, self.news);
         if did {
@@ -42,8 +42,8 @@ impl<'a> Look<'a> {
     }
 }
 
-/// What whoever starts the threads does meanwhile, with the first seats, as a compositor does its
-/// vsyncs.
+/// What the thread that starts the others does meanwhile, with the first seats, as a compositor
+/// does its vsyncs.
 pub trait Visit<R: Threads + Wait + Sync, B: TableName> {
     /// What it keeps since it was the first one, of itself and of what the first seats know.
     ghost keeps: { Self → Self → LocksIn B → FirstIn B → Type 0 };
@@ -51,7 +51,7 @@ pub trait Visit<R: Threads + Wait + Sync, B: TableName> {
     /// What it keeps of itself since then once it can do no more.
     ghost ended: { Self → Self → Type 0 };
 
-    /// Does its part, after something was done. It may tell of its look before it is done with it.
+    /// Does its part, after something was done. It may report its look before it is done with it.
     /// Whether it did anything itself since then that may let a thread go on.
     fn visit(
         &mut self,

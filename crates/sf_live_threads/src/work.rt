@@ -1,5 +1,5 @@
-//! The whole work of an actor's thread: try a step, tell what it did, sleep while it can't be done,
-//! up to the last step or the stop.
+//! The whole work of an actor's thread: try a step, report what it did, sleep while it can't be
+//! done, up to the last step or the stop.
 ghost use Rattle.std.specs.Prelude.{◌<◌};
 ghost use Rattle.sf_live_threads.specs.SeatedActors.{MayTryNext};
 ghost use Rattle.sf_live_threads.specs.Backs.{IfWhole};
@@ -15,8 +15,8 @@ use sf_picture::Picture;
 use sf_turns::TableName;
 use std::sync::Wait;
 
-/// Tells what a step did that is done, if it did anything at what all share. Whether the thread goes on;
-/// behind a transaction it does once the visitor has looked at it.
+/// Reports what a step did that is done, if it did anything at what all share. Whether the thread
+/// goes on; behind a transaction it does once the visitor has looked at it.
 fn tell_step<R: Wait>(rt: &R, watch: &Watch, noted: Noted) -> bool {
     if noted.is_silent() {
         return !watch.is_stopped(rt);
@@ -37,8 +37,8 @@ fn goes_on<R: Wait>(rt: &R, watch: &Watch, seen: u64, stepped: Stepped, noted: N
 }
 
 /// Tries a seated actor's steps, one after the other, until it has done all or is stopped; while a step
-/// can't be done it sleeps, and so it does after a transaction until the visitor has looked at it. One
-/// for which no thread could be started is left as it is. For want of memory all are stopped.
+/// can't be done it sleeps, and so it does after a transaction until the visitor has looked at it.
+/// One for which no thread could be started is left as it is. Out of memory, all are stopped.
 pub(crate) fn work<R: Wait, G: Gate, B: TableName>(
     rt: &R,
     locks: &Locks<B>,

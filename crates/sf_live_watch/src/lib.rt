@@ -1,7 +1,7 @@
 //! A watch over threads that do steps beside each other: who is idle since when, and when all rest.
 //! A thread that can't go on sleeps here until another one has done something, or until all are to
-//! stop; and whoever started them sleeps until there is something new to look at. No fact rests on
-//! it: it says when to try again, and when to stop.
+//! stop; and the starter, the thread that started them, sleeps until there is something new to look
+//! at. No fact rests on it: it says when to try again, and when to stop.
 #![tactic(auto)]
 
 mod watch;

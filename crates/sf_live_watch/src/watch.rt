@@ -48,7 +48,7 @@ pub struct Effect {
     pub slots: bool,
     pub points: bool,
     pub turns: bool,
-    /// Something that whoever started the threads looks at.
+    /// Something that the starter looks at.
     pub looks: bool,
 }
 
@@ -63,7 +63,7 @@ impl Effect {
     }
 }
 
-/// What the threads tell each other.
+/// What the threads let each other know.
 #[derive(Drop)]
 struct State {
     /// How often something was done, from 1 and wrapping: the start counts as new.
@@ -72,9 +72,9 @@ struct State {
     latest: [u64; KINDS],
     /// How many threads are idle, by what they wait for, and know the latest news for it.
     idle: [usize; KINDS],
-    /// The latest news for whoever started the threads.
+    /// The latest news for the starter.
     called: u64,
-    /// Up to which news they have looked.
+    /// Up to which news it has looked.
     looked: u64,
     /// How many do no more steps.
     ended: usize,
@@ -99,8 +99,8 @@ impl State {
         self.idle[index] = 0;
     }
 
-    /// Something was done. Whether whoever started the threads is to look at it: where a thread could
-    /// not be started they try its steps, so they look at all.
+    /// Something was done. Whether the starter is to look at it: where a thread could not be
+    /// started it tries that one's steps, so it looks at all.
     fn note(&mut self, effect: Effect) -> bool {
         self.news = self.news.wrapping_add(1);
         for awaited in [Awaited::Slot, Awaited::Point, Awaited::Turn] {
@@ -131,7 +131,7 @@ fn look_for(latest: &AtomicU64, seen: u64) {
     }
 }
 
-/// A watch over some threads, each with an index from 0, and over whoever started them.
+/// A watch over some threads, each with an index from 0, and over their starter.
 #[derive(Drop)]
 pub struct Watch {
     many: usize,
@@ -140,11 +140,11 @@ pub struct Watch {
     changed: [Condvar; KINDS],
     /// For threads that wait for a look.
     looked_on: Condvar,
-    /// For whoever started them: there are news, or all rest.
+    /// For the starter: there are news, or all rest.
     called: Condvar,
-    /// The latest news for whoever started them, to look at without the lock.
+    /// The latest news for the starter, to look at without the lock.
     latest_call: AtomicU64,
-    /// The latest news that they have looked at, likewise.
+    /// The latest news that it has looked at, likewise.
     latest_look: AtomicU64,
 }
 
@@ -182,9 +182,9 @@ impl Watch {
         self.state.lock(rt).stop
     }
 
-    /// Something was done: it lets those go on that wait for what it may have brought, and whoever
-    /// started the threads look at it, if it has something for them. False where all are to stop. Who
-    /// is woken finds the lock free.
+    /// Something was done: it lets those go on that wait for what it may have brought, and the
+    /// starter look at it, if it has something for it. False where all are to stop. Who is woken
+    /// finds the lock free.
     pub fn tell_done<R: Wait>(&self, rt: &R, effect: Effect) -> bool {
         let mut state = self.state.lock(rt);
         let calls = state.note(effect);
@@ -240,8 +240,8 @@ impl Watch {
         !state.stop
     }
 
-    /// Whoever started the threads waits for news to look at, later ones than it has seen, the first
-    /// time than 0. The latest, or none where all threads are idle or have ended, or are to stop.
+    /// The starter waits for news to look at, later ones than it has seen, the first time than 0.
+    /// The latest, or none where all threads are idle or have ended, or are to stop.
     pub fn next<R: Wait>(&self, rt: &R, seen: u64) -> Option<u64> {
         let many = self.many;
         look_for(&self.latest_call, seen);
@@ -255,7 +255,7 @@ impl Watch {
         Some(state.news)
     }
 
-    /// Whoever started the threads has looked at all that was done up to these news.
+    /// The starter has looked at all that was done up to these news.
     pub fn tell_looked<R: Wait>(&self, rt: &R, news: u64) {
         let mut state = self.state.lock(rt);
         state.looked = news;
@@ -264,10 +264,10 @@ impl Watch {
         self.looked_on.notify_all();
     }
 
-    /// A thread, which isn't idle, sleeps until whoever started it has looked at all that was done so
-    /// far for them to look at. Where no thread could be started for some index it doesn't: whoever
-    /// tries the steps of that actor may wait meanwhile for what this thread does next. False where it
-    /// is to stop.
+    /// A thread, which isn't idle, sleeps until the starter has looked at all that was done so far
+    /// for it to look at. Where no thread could be started for some index it doesn't: the starter,
+    /// which tries the steps of that actor, may wait meanwhile for what this thread does next.
+    /// False where it is to stop.
     pub fn wait_for_look<R: Wait>(&self, rt: &R) -> bool {
         let told = self.state.lock(rt).called;
         look_for(&self.latest_look, told.wrapping_sub(1));

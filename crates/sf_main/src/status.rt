@@ -6,7 +6,7 @@ pub const WRONG_WORDS: u8 = 1;
 /// The status where what was to be written could not be.
 pub const WRITE_FAILED: u8 = 4;
 
-/// The status where memory is wanting.
+/// The status where memory runs out.
 pub const NO_MEMORY: u8 = 5;
 
 /// The line on standard error for a status other than 0.

@@ -1,13 +1,13 @@
-//! What a person at a terminal is told: records are binary and would spoil it, and a script that is
-//! to be typed is waited for.
+//! What is written for a person at a terminal: records are binary and would spoil it, and a script
+//! that is to be typed is waited for.
 use sf_app_options::{Options, Run};
 use std::io::IsTerminal;
 
-/// Told in place of records that would go to a terminal.
+/// Written instead of records that would go to a terminal.
 pub const NO_RECORDS: &str = "sf_main: records are binary and are not written to a terminal; \
 write them to a file (> RECORDS) or through a pipe, or ask for --help";
 
-/// Told where a script is read from a terminal.
+/// Written where a script is read from a terminal.
 pub const WAITS: &str =
     "sf_main: waits for a script on standard input, from the terminal; Ctrl-D ends it";
 

@@ -16,7 +16,7 @@ pub fn words(rt: &HostRuntime) -> io::Result<Vec<String>> {
     Ok(words)
 }
 
-/// The status where the words could not be read: want of memory is no wrong word.
+/// The status where the words could not be read: out of memory is no wrong word.
 pub fn status_without_words(error: &io::Error) -> u8
     ensures memory { result ≡ 5 ↔ error_kind error.now ≡ OutOfMemory }
     ensures wrong { result ≡ 1 ↔ (error_kind error.now ≡ OutOfMemory → ⊥) }

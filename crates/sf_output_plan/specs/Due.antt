@@ -51,7 +51,7 @@ capture_due tree capture =
     out.Capture capture.number (record { layers = layers; order = draw_order layers; width = capture.width; height = capture.height }) ∷ [])
     else []
 
--- a hit tells the layer in front on the scene's own display, without mirrors
+-- a hit answers the layer in front on the scene's own display, without mirrors
 abbrev pub hit_number : Option LayerId → ℕ
 hit_number layer = option_map_or (λ (id : LayerId). id.0) layer 0
 
@@ -59,20 +59,20 @@ hit_number layer = option_map_or (λ (id : LayerId). id.0) layer 0
 abbrev pub hit_due : Plan → List Layer → HitPlan → Output ImageDue
 hit_due plan tree hit = out.Hit hit.number (hit_number (hit_of tree plan.stacks plan.width plan.height hit.x hit.y))
 
--- what is due of a tree beside the frame of the scene's own display, in order
+-- the outputs due of a tree beside the frame of the scene's own display, in order
 abbrev pub others_due : Plan → List Layer → List (Output ImageDue)
 others_due plan tree =
     map (display_due plan.stacks (written tree plan.mirrors)) plan.displays ++ flat_map (capture_due tree) plan.captures ++ map (hit_due plan tree) plan.hits
 
--- what is due of a tree, in order
+-- the outputs due of a tree, in order
 abbrev pub outputs_due : Plan → List Layer → List (Output ImageDue)
 outputs_due plan tree = out.Frame (frame_due plan (written tree plan.mirrors)) ∷ others_due plan tree
 
--- a view shows what is due
+-- a view shows the output due
 abbrev pub ShowsDue : ImageDue → ViewOf → Type 0
 ShowsDue due view = ViewsInOrder due.layers due.order due.width due.height view
 
--- what was made is what is due, place by place
+-- what was made are the outputs due, place by place
 abbrev pub AreShown : List (Output ImageDue) → List (Output ViewOf) → Type 0
 AreShown dues views = AllZip (IsOutput ShowsDue) dues views
 

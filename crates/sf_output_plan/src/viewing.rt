@@ -88,7 +88,7 @@ fn number_at(view: &View, x: i32, y: i32) -> u32
     }
 }
 
-/// What a view of the scene's own display tells of each of these hit tests.
+/// What a view of the scene's own display answers to each of these hit tests.
 fn hits_in(alloc: Global, view: &View, hits: &[HitPlan]) -> Result<Vec<Output<View>>, NoMemory>
     ensures { IfOk result (λ views. (plan : PlanOf) (tree : List LayerOf) → ShowsDue (frame_due plan tree) view.now
         → AreShown (map (hit_due plan tree) hits.now) views.items) }
@@ -115,7 +115,7 @@ fn own_view(
     display_view(alloc, layers, stacks, 0, plan.width, plan.height)
 }
 
-/// What each hit test tells of the scene's own display without mirrors.
+/// What each hit test answers for the scene's own display without mirrors.
 fn hits(alloc: Global, plan: &Plan, tree: &Tree) -> Result<Vec<Output<View>>, NoMemory>
     requires { IsPlan plan.now }
     ensures { IfOk result (λ views. AreShown (map (hit_due plan.now tree.now.layers) plan.now.hits) views.items) }

@@ -223,7 +223,7 @@ impl Screen {
     /// Shows a view, over the frame of the last one where that has its size and neither draws more
     /// than 2,048 layers; the workers of the engine compose its frame, each some of its rows. A layer
     /// that shows a buffer finds its pixels among the contents, at the index that stands for the layer
-    /// in `sources`. After want of memory the screen is as it was.
+    /// in `sources`. After running out of memory the screen is as it was.
     pub fn show<R: Threads + Sync, C: Pixels + Sync>(
         &mut self,
         engine: &Engine<R>,
@@ -249,7 +249,8 @@ impl Screen {
         Ok(())
     }
 
-    /// At most so many points of layers are painted to show a view, where memory suffices to tell.
+    /// At most so many points of layers are painted to show a view, where memory suffices to find
+    /// out.
     pub fn work(&self, view: &View) -> u64 {
         let points = match &self.view {
             Some(old) if is_composed_over(old, view) => match dirty(self.alloc, old, view) {

@@ -70,8 +70,8 @@ impl Screens {
         }
     }
 
-    /// At most so many points of layers are painted to show a view as this output, where memory suffices
-    /// to tell.
+    /// At most so many points of layers are painted to show a view as this output, where memory
+    /// suffices to find out.
     pub fn work(&self, of: &Output<()>, view: &View) -> u64 {
         match self.list.iter().find(|one| is_same(&one.of, of)) {
             Some(one) => one.screen.work(view),
@@ -94,7 +94,7 @@ impl Screens {
         }
     }
 
-    /// Puts the screen of an output back. For want of memory it is gone.
+    /// Puts the screen of an output back. Where memory runs out it is gone.
     pub fn put(&mut self, of: Output<()>, screen: Screen) -> Result<(), NoMemory>
         ensures ok { OnOk result (self.new ≡ self.old ++ record { of = of; screen = screen } ∷ []) }
         ensures err { OnErr result (self.new ≡ self.old) }

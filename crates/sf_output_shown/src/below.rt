@@ -10,7 +10,7 @@ use sf_view::sf_tree::Tree;
 use std::alloc::Global;
 
 /// The layer of this number and all that reach it by parents, in the order of creation: none
-/// where the tree has no such layer. Only want of memory refuses it.
+/// where the tree has no such layer. Its only error is out of memory.
 pub fn under(alloc: Global, tree: &Tree, id: LayerId) -> Result<Vec<Layer>, NoMemory>
     ensures value { IfOk result (λ kept. kept.items ≡ under tree.now.layers id) }
     ensures kept { IsTree tree.now.most tree.now.layers }

@@ -11,7 +11,7 @@ use std::alloc::Global;
 const MOST: u32 = 9_216;
 
 /// A tree of these layers, in this order, which can have 9,216 layers. The layers are those of such a
-/// tree, as what `cut` and `written` ask for is, so only want of memory refuses it.
+/// tree, as what `cut` and `written` ask for is, so its only error is out of memory.
 pub fn tree_of(alloc: Global, layers: &[Layer]) -> Result<Tree, NoMemory>
     requires { IsTree 9216 layers.now }
     ensures { IfOk result (λ tree. tree ≡ record { layers = layers.now; most = 9216 }) }

@@ -18,6 +18,6 @@ pub record AreSolidTo (at : ℕ) (bytes : List ℕ) : Type 0 where
 pub record IsSolid (picture : Picture) : Type 0 where
   pub alphas : (x y : ℕ) → x < picture.width → y < picture.height → (pixel_at picture x y).a ≡ 255
 
--- a mark tells whether a picture is solid
+-- a mark says whether a picture is solid
 pub record TellsSolid (mark : Bool) (picture : Picture) : Type 0 where
   pub told : IsTrue mark ↔ IsSolid picture

@@ -15,8 +15,8 @@ use std::alloc::Global;
 use std::marker::Model;
 
 /// A picture with its pixels as a reader sees them: four bytes each, in the order red, green, blue,
-/// alpha, row by row from the top. Contracts see the picture alone, since it tells the bytes. Whether
-/// all alphas are 255 is found once, when it is painted.
+/// alpha, row by row from the top. Contracts see the picture alone, since it determines the bytes.
+/// Whether all alphas are 255 is found once, when it is painted.
 pub struct Painted {
     picture: Picture,
     bytes: Vec<u8>,

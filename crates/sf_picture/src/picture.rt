@@ -53,7 +53,7 @@ impl Picture {
         self.has_same_form(other) && are_same_fills(self.fills.as_slice(), other.fills.as_slice())
     }
 
-    /// Whether two pictures are equal but for their fills.
+    /// Whether two pictures are equal except for their fills.
     fn has_same_form(&self, other: &Picture) -> bool
         ensures { IsTrue result ↔ HasSameForm self.now other.now }
     {

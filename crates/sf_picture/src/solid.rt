@@ -21,7 +21,7 @@ pub fn are_solid(pixels: u8x64) -> bool
     are_highest(u32x16::from_le_bytes(pixels))
 }
 
-/// How many pixels from the first on have an alpha of 255, as far as blocks of sixteen tell.
+/// How many pixels from the first on have an alpha of 255, as far as blocks of sixteen show.
 fn solid_blocks(bytes: &[u8]) -> usize
     ensures within { 4 * result ≤ length bytes.now }
     ensures solid { AreSolid result bytes.now }

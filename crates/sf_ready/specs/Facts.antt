@@ -25,11 +25,11 @@ is_met frames barrier = list_any (meets barrier) frames
 abbrev pub has_layer : List ℕ → LayerId → Bool
 has_layer layers layer = list_any (λ number. number == layer.0) layers
 
--- the same barriers are met by both, as far as buffers tell
+-- the same barriers are met by both, as far as buffers show
 abbrev pub TellsSame : List (ℕ × ℕ) → List (ℕ × ℕ) → Type 0
 TellsSame frames others = (barrier : LayerId × ℕ) → is_met frames barrier ≡ is_met others barrier
 
--- what is told after one buffer more
+-- the facts after one buffer more
 abbrev pub TellsOneMore : List (ℕ × ℕ) → List (ℕ × ℕ) → ℕ × ℕ → Type 0
 TellsOneMore old new committed = TellsSame new (committed ∷ old)
 

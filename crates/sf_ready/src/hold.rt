@@ -42,10 +42,10 @@ impl Hold {
 }
 
 /// Why the first transaction of a token does not commit at the expected present time, in
-/// nanoseconds; None where it may. `drawn` tells of each of its buffers, in order, whether the
-/// write has ended, and `seen` is what was observed of the timelines. Of several causes it is the
-/// first in the order of `Hold`. A fence or a write is that of the first such buffer, and of a
-/// fence it is the lowest such timeline. It takes no memory.
+/// nanoseconds; None where it may. `drawn` says of each of its buffers, in order, whether the write
+/// has ended, and `seen` is what was observed of the timelines. Of several causes it is the first
+/// in the order of `Hold`. A fence or a write is that of the first such buffer, and of a fence it
+/// is the lowest such timeline. It takes no memory.
 #[tactic(auto, unfolding(crate::specs::Holds::hold_of))]
 pub fn hold_of<L: Lease + Drop>(
     txn: &Transaction<L>,

@@ -234,7 +234,7 @@ fn push_four(out: &mut Vec<u8>, a: u32, b: u32, c: u32, d: u32) -> Result<(), No
     Ok(())
 }
 
-/// More values than a length of 32 bits tells count as want of memory.
+/// More values than a length of 32 bits holds count as out of memory.
 #[tactic(auto, unfolding(crate::specs::Records::list_bytes))]
 fn push_reply(out: &mut Vec<u8>, reply: &ReplyRecord) -> Result<(), NoMemory>
     ensures ok { OnOk result (out.new.items ≡ out.old.items ++ reply_bytes reply.now) }
@@ -363,8 +363,8 @@ fn body(alloc: Global, shown: &Record) -> Result<Vec<u8>, NoMemory>
 pub enum RunFault {
     /// The sink failed.
     WriteFault,
-    /// Want of memory; or a record has a list of more than 2^32 - 1 items or a body of more bytes,
-    /// whose length its bytes could not tell.
+    /// Out of memory; or a record has a list of more than 2^32 - 1 items or a body of more bytes,
+    /// whose length its bytes could not show.
     NoMemory,
 }
 
@@ -387,9 +387,9 @@ fn write_body<K: Sink>(sink: &mut K, tag: [u8; 4], body: &[u8]) -> Result<(), Ru
     }
 }
 
-/// Writes a record. After a fault the sink has a prefix of it, after want of memory none of it. A
-/// record with a list of more than 2^32 - 1 items, or with a body of more bytes, is answered as want
-/// of memory; so each number of a record that is written, or was begun, fits its field.
+/// Writes a record. After a fault the sink has a prefix of it, after running out of memory none of
+/// it. A record with a list of more than 2^32 - 1 items, or with a body of more bytes, is answered
+/// as out of memory; so each number of a record that is written, or was begun, fits its field.
 #[tactic(auto, unfolding(crate::specs::Records::record_bytes))]
 pub fn write_record<K: Sink>(alloc: Global, sink: &mut K, shown: &Record) -> Result<(), RunFault>
     ensures ok { OnOk result (Appends (K.taken sink.old) (K.taken sink.new) (record_bytes shown.now)) }
@@ -442,9 +442,9 @@ pub fn write_image<K: Sink>(
     write_body(sink, image_tag(of), body)
 }
 
-/// Writes records in order. After a fault the sink has a prefix of their bytes, after want of memory
-/// whole records alone. A record that is too long, as in [`write_record`], is answered as want of
-/// memory.
+/// Writes records in order. After a fault the sink has a prefix of their bytes, after running out
+/// of memory whole records alone. A record that is too long, as in [`write_record`], is answered as
+/// out of memory.
 #[tactic(auto, unfolding(crate::specs::Records::bytes_of))]
 pub fn write_all<K: Sink>(alloc: Global, sink: &mut K, records: &[Record]) -> Result<(), RunFault>
     ensures ok { OnOk result (Appends (K.taken sink.old) (K.taken sink.new) (bytes_of records.now)) }

@@ -86,8 +86,8 @@ pub struct NumberedFrame {
     pub pixels: Items<u8>,
 }
 
-/// What a hit test tells in a vsync: its number, that of the vsync, and that of the layer in front, 0
-/// for none.
+/// What a hit test answers in a vsync: its number, that of the vsync, and that of the layer in
+/// front, 0 for none.
 #[derive(Clone, Copy)]
 pub struct Hit {
     pub output: u32,
@@ -195,6 +195,6 @@ pub enum Record {
     Done,
     /// The place of a script's fault; nothing else is written then.
     Sflt(ScriptFault),
-    /// What the records of a run come to, in place of them.
+    /// What the records of a run come to, instead of them.
     Summ(Summary),
 }

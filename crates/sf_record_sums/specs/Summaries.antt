@@ -68,7 +68,7 @@ summary_of rs = record {
 abbrev pub nothing : Summary
 nothing = record { replies = 0; vsyncs = 0; commits = 0; rejected = 0; frames = 0; pixel_sum = 0; held = 0; stuck = 0 }
 
--- each number as 64 bits tell it
+-- each number as 64 bits hold it
 abbrev pub wrapped : Summary → Summary
 wrapped s = record {
   replies = s.replies % 2 ^ 64;

@@ -55,8 +55,8 @@ impl Tally {
         }
     }
 
-    /// What the records come to whose bytes were taken, where these are the bytes of whole records. Each
-    /// number is told modulo 2^64.
+    /// What the records come to whose bytes were taken, where these are the bytes of whole records.
+    /// Each number counts modulo 2^64.
     pub fn summary(&self) -> Summary
         ensures { (records : List RecordValue) → All RecordFits records → self.now ≡ bytes_of records → result ≡ wrapped (summary_of records) }
     {

@@ -1,4 +1,4 @@
--- Regions as sets of points, told by lists of rectangles.
+-- Regions as sets of points, given by lists of rectangles.
 use Rattle.std.specs.Prelude.{ℤ, pos, ◌+ℤ◌, ◌-ℤ◌, Bool, true, List, ◌≡◌, ◌≤ℤ◌, ◌<ℤ◌}
 use Rattle.std.specs.List.{list_any}
 use Rattle.sf_base.specs.Geometry.{covers}

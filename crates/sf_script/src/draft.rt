@@ -25,7 +25,7 @@ const MOST_NAMES: usize = 32;
 const END_RANK: u32 = 6;
 
 /// What the lines so far spell: their scene, the rank of the last one, and the names of the last
-/// actor. A set tells which layers have a stack, as there may be as many as lines.
+/// actor. A set says which layers have a stack, as there may be as many as lines.
 #[derive(Drop)]
 pub struct Draft {
     scene: Scene,

@@ -63,6 +63,6 @@ pub struct ScriptFault {
 pub enum ParseFault {
     /// The bytes are no scene: the first line that has a fault, and in it the leftmost wrong word.
     Script(ScriptFault),
-    /// Want of memory.
+    /// Out of memory.
     NoMemory,
 }

@@ -1,7 +1,7 @@
 //! The grammar of scripts. A script is the text that a run begins with: the display, what is
 //! declared, each actor's steps, and the order in which actors and vsyncs are picked. `parse`
 //! reads it whole before the first step is done. Lines are read one by one; each is read after the
-//! draft that the lines before it left, and its leftmost wrong word is told with what is wrong.
+//! draft that the lines before it left, and its leftmost wrong word is reported with what is wrong.
 #![tactic(auto)]
 
 mod changes;

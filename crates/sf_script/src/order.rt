@@ -88,7 +88,7 @@ pub fn order_line(alloc: Global, scene: &Scene, line: &[u8]) -> Result<Vec<Pick>
 }
 
 /// The picks of a line of the order. The first word that is no pick, or names no actor of the
-/// scene, tells the fault.
+/// scene, gives the fault.
 #[tactic(auto, unfolding(crate::specs::Order::picks_at), using(sf_script_words::proofs::Sets::word_counts))]
 fn picks(alloc: Global, scene: &Scene, line: &[u8]) -> Result<Vec<Pick>, LineFault>
     ensures given { GivesUnless (λ x. x.items) result (picks_at scene.now [] (words_of line.now)) }

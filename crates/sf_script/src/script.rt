@@ -26,7 +26,7 @@ use sf_script_words::{
 };
 use std::alloc::Global;
 
-/// The line behind its first word, but for steps and picks.
+/// The line behind its first word, except for steps and picks.
 #[tactic(auto, unfolding(crate::specs::Script::form_at))]
 fn form(alloc: Global, draft: &Draft, keyword: Keyword, line: &[u8]) -> Result<Line, LineFault>
     requires version { is_of (draft.now.scene.version == 2) keyword ≡ true }

@@ -113,7 +113,7 @@ fn put_producers(text: &mut String, draws: &mut Draws, frames: u64) -> Result<()
     Ok(())
 }
 
-/// The script of the scene that a number generates. Only want of memory refuses it.
+/// The script of the scene that a number generates. Its only error is out of memory.
 pub fn generate(alloc: Global, number: u64) -> Result<Vec<u8>, NoMemory>
     ensures { IfOk result (λ text. text.items ≡ concat (lines_of number)) }
 {

@@ -36,8 +36,8 @@ fn stepped(mut actors: Vec<ActorScript>, step: Step) -> Result<Vec<ActorScript>,
     Ok(actors)
 }
 
-/// A scene grows by one thing at a time. Each call takes the scene and gives the new one; for want
-/// of memory the scene is gone.
+/// A scene grows by one thing at a time. Each call takes the scene and gives the new one;
+/// where memory runs out the scene is gone.
 impl Scene {
     /// A scene in which nothing is declared and no one is picked. It takes no memory.
     pub fn bare(alloc: Global, version: u32, width: u32, height: u32, period: u64) -> Scene

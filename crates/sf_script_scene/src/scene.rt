@@ -9,7 +9,7 @@ use sf_picture::Picture;
 use std::marker::Model;
 
 /// What a script spells. Its type keeps the ranges and the limits of a script, that what an actor
-/// or the order names is declared, and that no number is declared twice; `pixels` tells them to a
+/// or the order names is declared, and that no number is declared twice; `pixels` shows them to a
 /// caller. Lists of declarations keep the order of the script.
 #[derive(Drop)]
 pub struct Scene {

@@ -1,4 +1,4 @@
--- The numbers of the causes, as a record tells them.
+-- The numbers of the causes, as a record has them.
 use Rattle.std.specs.Prelude.{ℕ}
 use Rattle.sf_script_words.specs.declared.fault.Cause.{Cause}
 use Rattle.sf_script_words.specs.declared.fault.Cause.TheVariants as cause

@@ -30,7 +30,7 @@ pub enum Cause {
 }
 
 impl Cause {
-    /// The cause's number, by which records tell it.
+    /// The cause's number in records.
     pub fn number(self) -> u32
         ensures { result ≡ number_of self }
     {
@@ -50,8 +50,8 @@ impl Cause {
     }
 }
 
-/// A fault in a line, told by how many words there are from the wrong one on: none where a word is
-/// missing, and one more than the line has where the fault is of the line.
+/// A fault in a line, placed by how many words there are from the wrong one on: none where a word
+/// is missing, and one more than the line has where the fault is of the line.
 #[derive(Clone, Copy)]
 pub struct WordFault {
     pub left: usize,

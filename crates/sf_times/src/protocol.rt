@@ -1,5 +1,5 @@
-//! What the words of the table and the seats of threads keep between any two atomic steps, and
-//! what each kind of step tells the thread that makes it. Nothing here has code that runs.
+//! What the words of the table and the seats of threads keep between any two atomic steps, and what
+//! each kind of step shows the thread that makes it. Nothing here has code that runs.
 use atomic_table::{Join, Play, Split, TableRule};
 use std::collections::LinkedList;
 
@@ -44,8 +44,8 @@ impl Play<(), Knows> for Load {
     ghost then = { Loads };
 }
 
-/// A load that tells the first seat, while no other is out, that the points that it was shown
-/// were signalled through itself.
+/// A load that shows the first seat, while no other is out, that the points that it was shown were
+/// signalled through itself.
 pub struct Audit;
 
 impl Play<(), Knows> for Audit {

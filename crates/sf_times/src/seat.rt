@@ -58,7 +58,7 @@ impl TimeSeat {
         shared.load::<Audit>(&mut self.seat, 0);
     }
 
-    /// Tells, without a load, that all that a first seat with no other out knows was signalled
+    /// States, without a load, that all that a first seat with no other out knows was signalled
     /// through itself or a seat that it took in.
     pub fn exact(&self)
         ensures { IsAlone self.now.knows → OnlyOwnSignals self.now.knows }

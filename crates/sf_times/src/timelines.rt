@@ -30,7 +30,7 @@ impl Model for Timelines {
 }
 
 impl Timelines {
-    /// 64 counters at 0, and the first seat. Only want of memory refuses it.
+    /// 64 counters at 0, and the first seat. Its only error is out of memory.
     pub fn open(alloc: Global) -> Result<(Timelines, TimeSeat), NoMemory>
         ensures table { IfOk result (λ opened. opened.1.table ≡ opened.0) }
         ensures first { IfOk result (λ r. r.1.knows ≡ opened) }

@@ -18,8 +18,8 @@ use std::alloc::Global;
 pub enum ApplyFault {
     /// The operation of this number, from 1, is the first that is rejected, for this cause, which
     /// is the first of these, by number, that it meets:
-    /// 1, its layer (but for `create`), or the parent or relative layer that it names, is not in
-    /// the tree;
+    /// 1, its layer (except for `create`), or the parent or relative layer that it names, is not
+    /// in the tree;
     /// 2, `create` of a number that is in the tree;
     /// 3, after `reparent` the layer would be its own ancestor;
     /// 4, after `reparent` or `relative` the layer would reach itself by steps to a parent or to a

@@ -258,7 +258,7 @@ fn relate(
     settle(layers, place, before, fault)
 }
 
-/// Does one operation in place, but for `destroy`, and tells how it is taken back.
+/// Does one operation in place, except `destroy`, and returns how it is taken back.
 pub fn change(
     alloc: Global,
     layers: &mut Layers,

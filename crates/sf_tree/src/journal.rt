@@ -77,7 +77,7 @@ impl Journal {
         Ok(())
     }
 
-    /// Notes how the last change is taken back, or hands it back for want of memory.
+    /// Notes how the last change is taken back, or hands it back where memory runs out.
     pub fn remember(&mut self, undo: Undo) -> Result<(), Undo>
         ensures ok { OnOk result ((layers first : List LayerValue) → CanUndo undo layers →
             GoesBack self.old (undone undo layers) first → GoesBack self.new layers first) }

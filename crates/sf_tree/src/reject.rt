@@ -2,7 +2,7 @@
 ghost use Rattle.std.specs.Prelude.{◌≡◌};
 ghost use Rattle.sf_tree.specs.Rejects.{number_of};
 
-// Why an operation is rejected. The first of these causes, by number, is told.
+// Why an operation is rejected. The first of these causes, by number, is reported.
 #[derive(Clone, Copy)]
 pub enum Reject {
     // 1: the layer of an operation other than `create`, or the parent or the relative layer that

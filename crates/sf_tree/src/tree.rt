@@ -115,10 +115,10 @@ impl Tree {
         self.layers.index_of(id)
     }
 
-    /// Does all operations, in order, or none of them: then it tells the first that is rejected,
+    /// Does all operations, in order, or none of them: then it returns the first that is rejected,
     /// from 1, and the first cause, by number, to reject it. There are at most 4,294,967,295
-    /// operations, each on a layer of a number of 1 or more, with positions, crops and
-    /// orientations in their ranges.
+    /// operations, each on a layer of a number of 1 or more, with positions, crops and orientations
+    /// in their ranges.
     pub fn apply(&mut self, ops: &[(LayerId, Op)]) -> Result<(), ApplyFault>
         requires few { length ops.now ≤ 4294967295 }
         requires in_range { All IsOperation ops.now }

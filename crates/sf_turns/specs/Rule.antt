@@ -1,4 +1,4 @@
--- What holds between any two atomic steps on the table of turns, and what each kind of step tells.
+-- What holds between any two atomic steps on the table of turns, and what each kind of step shows.
 -- Per buffer the table has a word, which counts the turns that left, and a slot, the home of the
 -- pixels. The last word counts nothing.
 use Rattle.std.specs.Prelude.{◌≡◌, ℕ, ◌+◌, ◌-◌, ◌<◌, ◌≤◌, ◌^◌, true, false, Option, Some, None, List}
@@ -209,7 +209,7 @@ module _ {T : Type 0} where
         × (leaves_of st.word m.0.leaves ≤ n)
         × (IsAlone m.0 → (n ≡ leaves_of st.word m.0.leaves) × IsExact st.slots m'.0.leaves m'.0.seen)
 
-    -- a load that changes nothing, and tells the first seat, alone, that its leaves are all
+    -- a load that changes nothing, and shows the first seat, alone, that its leaves are all
     abbrev pub Audits : Step (Home P T) → Me (Home P T) (Knows T) → ℕ → Me (Home P T) (Knows T) → Type 0
     Audits st m n m' = (m' ≡ m) × (IsAlone m.0 → IsExact st.slots m.0.leaves m.0.seen)
 

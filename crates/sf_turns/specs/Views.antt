@@ -1,4 +1,4 @@
--- What contracts see of seats, stocks and tokens, and what calls tell of seats.
+-- What contracts see of seats, stocks and tokens, and what calls show of seats.
 use Rattle.std.specs.Prelude.{◌≡◌, ℕ, ◌+◌, ◌-◌, ◌≤◌, ◌^◌, min, Bool, true, false, List, [], ◌∷◌, ◌++◌}
 use Rattle.atomic_table.specs.Seated.{TableId}
 use Rattle.sf_turns.specs.Counts.{leaves_of, IsExact}

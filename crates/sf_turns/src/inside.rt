@@ -67,7 +67,7 @@ impl<P: Stamped> Inside<P> {
     }
 
     /// Issues the next turn, which expects what this one promises to leave. This one is then busy.
-    /// Want of memory hands both back.
+    /// Out of memory hands both back.
     pub fn issue(
         self,
         leaves: P::Stamp,

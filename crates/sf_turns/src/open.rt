@@ -13,7 +13,7 @@ use std::alloc::Global;
 use std::sync::Arc;
 
 /// The table of a run, which has that many buffers: its first seat, and the stock of all of them,
-/// whose numbers are those below `buffers`. Only want of memory refuses it.
+/// whose numbers are those below `buffers`. Its only error is out of memory.
 pub fn open_turns<P: Stamped>(
     alloc: Global,
     buffers: u32,

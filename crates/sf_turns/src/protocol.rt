@@ -1,5 +1,5 @@
 //! What the words, the slots and the seats of the turns' table keep between any two atomic steps,
-//! and what each kind of step tells the thread that makes it. Nothing here has code that runs. Per
+//! and what each kind of step shows the thread that makes it. Nothing here has code that runs. Per
 //! buffer the table has a word, which counts the turns that left, and a slot, the home of the
 //! pixels; the last word counts nothing.
 use crate::stamped::Stamped;
@@ -87,7 +87,7 @@ impl<P, T> Play<Home<P, T>, Knows<T>> for Load {
     ghost then = { Loads };
 }
 
-/// A load that tells the first seat, while no other is out, that its leaves are all.
+/// A load that shows the first seat, while no other is out, that its leaves are all.
 pub struct Audit;
 
 impl<P, T> Play<Home<P, T>, Knows<T>> for Audit {

@@ -43,7 +43,7 @@ impl<P: Stamped> Model for TurnSeat<P> {
 
 impl<P: Stamped> TurnSeat<P> {
     /// A seat for another thread, which has seen what this one has and has no leaves. This is the
-    /// first seat, and then has one more seat out. Want of memory changes nothing.
+    /// first seat, and then has one more seat out. Out of memory changes nothing.
     pub fn split(&mut self) -> Result<TurnSeat<P>, NoMemory>
         requires { self.old.is_first ≡ true }
         ensures ok { IfOk result (λ s. (self.new ≡ record self.old { out = self.old.out + 1 })
@@ -70,7 +70,7 @@ impl<P: Stamped> TurnSeat<P> {
         self.table.join(&mut self.seat, seat);
     }
 
-    /// Tells, without a load, that a first seat with no other out has all turns that left, each
+    /// States, without a load, that a first seat with no other out has all turns that left, each
     /// once, and has seen no more.
     pub fn exact(&self)
         ensures { IsExactAlone self.now }

@@ -59,7 +59,7 @@ impl<P: Stamped> Model for Permit<P> {
 
 impl<P: Stamped> Stock<P> {
     /// A stock of the first n of the buffers, which this one then lacks. At most as many as it
-    /// has left. Want of memory changes nothing.
+    /// has left. Out of memory changes nothing.
     pub fn cut(&mut self, n: u32) -> Result<Stock<P>, NoMemory>
         requires { n ≤ length self.old.buffers }
         ensures ok { IfOk result (λ s. (s ≡ record self.old { buffers = take n self.old.buffers })
@@ -82,7 +82,7 @@ impl<P: Stamped> Stock<P> {
     }
 
     /// The right to open the first of the buffers, which this one then lacks. Something is left.
-    /// Want of memory changes nothing.
+    /// Out of memory changes nothing.
     pub fn one(&mut self) -> Result<Permit<P>, NoMemory>
         requires { 0 < length self.old.buffers }
         ensures ok { IfOk result (λ p. (p.table ≡ self.old.table) × (self.old ≡ record self.new { buffers = p.buffer ∷ self.new.buffers })) }
@@ -112,7 +112,7 @@ impl<P: Stamped> Permit<P> {
         self.buffer
     }
 
-    /// Turn 0 of a new buffer with these pixels, which expects their stamp. Want of memory hands
+    /// Turn 0 of a new buffer with these pixels, which expects their stamp. Out of memory hands
     /// both back.
     pub fn open(self, p: P) -> Result<Turn<P>, (NoMemory, Permit<P>, P)>
         ensures ok { IfOk result (λ t. t ≡ first_turn self (P.stamp_of p)) }

@@ -100,7 +100,7 @@ impl<P: Stamped> Turn<P> {
     }
 
     /// Issues the next turn, which expects what this one promises to leave. This one is then owed.
-    /// Want of memory hands both back.
+    /// Out of memory hands both back.
     pub fn issue(
         self,
         leaves: P::Stamp,

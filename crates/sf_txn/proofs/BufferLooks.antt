@@ -71,13 +71,6 @@ module _ {L E R C : Type 0} (lease : Ghosts L E R C) where
           let both : (get_or new index d ∷ drop (index + 1) new) ≡ (get_or old index d ∷ drop (index + 1) old) = sym (drop_more new index d inside) ∙ (b.rest ∙ drop_more old index d (omega arith)) in
           cc
 
-  -- all were looked at
-  pub LookedBelow-all : (before after : E) (old new : List (Buffer L)) (shown : List Bool) (index : ℕ) → length new ≡ length old → length new ≤ index → LookedBelow before after old new shown index → AllZip (IsLookedBuffer lease) old new × All (λ buffer. IsShownTo lease before after buffer.lease) new × (shown ≡ map (λ buffer. lease.shown buffer.lease) new)
-  LookedBelow-all before after old new shown index size done b =
-      let whole : take index new ≡ new = take_all index new done in
-      let whole_old : take index old ≡ old = take_all index old (omega arith) in
-      (rw (whole, whole_old) at b.looked, rw whole at b.told, rw whole at b.shown)
-
   -- looks change nothing of what buffers show
   shown_by-looked : (old new : List (Buffer L)) → AllZip (IsLookedBuffer lease) old new → map shown_by new ≡ map shown_by old
   shown_by-looked [] [] all = refl

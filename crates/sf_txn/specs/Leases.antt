@@ -22,7 +22,7 @@ module _ {L E R C : Type 0} (lease : Ghosts L E R C) where
     pub fence : new.fence ≡ old.fence
     pub looked : IsLooked old.lease new.lease
 
-  -- what a look showed is so: a true one is known from then on, what was known before is true, and an exact eye tells
+  -- what a look showed is so: a true one is known from then on, what was known before is true, and an exact eye says
   -- by the ends that it had
   pub record IsShownTo (old new : E) (l : L) : Type 0 where
     pub known : IsTrue (lease.shown l) → lease.knows new l

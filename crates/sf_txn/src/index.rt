@@ -42,7 +42,7 @@ fn key_of(operation: &(LayerId, Op)) -> u64
     u64::from(operation.0.0) * 16 + u64::from(operation.1.kind_of())
 }
 
-/// Notes an operation's place, unless it is create or destroy. For want of memory the map goes.
+/// Notes an operation's place, unless it is create or destroy. Where memory runs out the map goes.
 fn note(places: &mut Option<BTreeMap<u64, usize>>, operation: &(LayerId, Op), place: usize)
     ensures { IfSome places.new (λ new. IsSomeAnd places.old (λ old. IsNoted operation.now place old new)) }
 {

@@ -8,7 +8,7 @@ use sf_base::NoMemory;
 use sf_picture::Painted;
 use std::alloc::Global;
 
-/// The right to read the pixels of a shown buffer once, after its writer has left them. It tells
+/// The right to read the pixels of a shown buffer once, after its writer has left them. It says
 /// through an eye whether the write has ended, and a reading hands the right on before it ends, so
 /// that the buffer's next holder can be named while the pixels are still read.
 pub trait Lease: Sized {
@@ -51,7 +51,7 @@ pub trait Lease: Sized {
     // The eye knows the lease's write to have ended.
     ghost knows: { Self.Eye → Self → Type 0 };
 
-    // A look through an eye of this mark shows what the eye's ends tell of the lease's end.
+    // A look through an eye of this mark shows what the eye's ends say of the lease's end.
     ghost is_exact: { Self.Mark → Bool };
 
     ghost tells: { List (ℕ × ℕ) → ℕ × ℕ → Bool };
@@ -96,7 +96,7 @@ pub trait Lease: Sized {
         ensures ends { ends eye.new ≡ ends eye.old }
         ensures keeps { (other : Self) → knows eye.old other → knows eye.new other };
 
-    /// Issues the next lease of the buffer, which expects the same picture. Want of memory hands
+    /// Issues the next lease of the buffer, which expects the same picture. Out of memory hands
     /// the reading back.
     fn hand_on(
         alloc: Global,

@@ -23,7 +23,7 @@ impl<L: Lease + Drop> Transaction<L> {
     /// Sets another transaction's operations and buffers into this one in their order, and appends
     /// its barriers. The time is the greater of the explicit ones, and automatic where both are;
     /// the apply token stays. The buffers whose places others took come back beside it, in the
-    /// order in which they went. Want of memory hands both transactions back.
+    /// order in which they went. Out of memory hands both transactions back.
     pub fn merge(
         mut self,
         mut other: Transaction<L>,

@@ -185,7 +185,7 @@ impl Ops {
         }
     }
 
-    /// Makes room in one of two lists for the operations of the other, and tells whether it is
+    /// Makes room in one of two lists for the operations of the other, and returns whether it is
     /// before the later ones: the shorter list is to be put into the longer one.
     pub(crate) fn make_room_for(&mut self, later: &mut Ops) -> Result<bool, NoMemory>
         ensures list { self.new.list ≡ self.old.list }

@@ -15,8 +15,8 @@ use std::marker::Model;
 
 /// Operations on layers that are done together, with the buffers that they show, an apply token, a
 /// desired present time and barriers. An operation takes the place of an earlier one of its kind
-/// for its layer, but for `create` and `destroy`, so no two others of a kind are for one layer. The
-/// operations that show buffers are the buffers, in order. There are at most 4,294,967,295
+/// for its layer, except for `create` and `destroy`, so no two others of a kind are for one layer.
+/// The operations that show buffers are the buffers, in order. There are at most 4,294,967,295
 /// operations, each on a layer of a number of 1 or more, with positions, crops and orientations in
 /// their ranges.
 pub struct Transaction<L: Lease> {
@@ -150,7 +150,7 @@ impl<L: Lease + Drop> Transaction<L> {
     }
 
     /// Appends a barrier: the transaction waits until a buffer with at least this frame number was
-    /// committed for the layer. Want of memory changes nothing.
+    /// committed for the layer. Out of memory changes nothing.
     pub fn add_barrier(&mut self, layer: LayerId, frame: u64) -> Result<(), NoMemory>
         ensures ok { OnOk result (self.new ≡ record self.old { barriers = self.old.barriers ++ (layer, frame) ∷ [] }) }
         ensures err { OnErr result (self.new ≡ self.old) }
@@ -160,8 +160,8 @@ impl<L: Lease + Drop> Transaction<L> {
     }
 
     /// Sets an operation that shows no buffer. It goes last, and an earlier one of its kind for its
-    /// layer goes, but for `create` and `destroy`. The layer's number is 1 or more, and positions,
-    /// crops and orientations are in their ranges. Want of memory changes nothing.
+    /// layer goes, except for `create` and `destroy`. The layer's number is 1 or more, and
+    /// positions, crops and orientations are in their ranges. Out of memory changes nothing.
     pub fn set(&mut self, layer: LayerId, op: Op) -> Result<(), NoMemory>
         requires plain { shows_of op layer ≡ [] }
         requires in_range { IsOperation (layer, op) }
@@ -174,7 +174,7 @@ impl<L: Lease + Drop> Transaction<L> {
     }
 
     /// Shows a buffer on its layer, whose number is 1 or more, and hands back the one whose place
-    /// it takes. Want of memory changes nothing, and hands the buffer back.
+    /// it takes. Out of memory changes nothing, and hands the buffer back.
     pub fn set_buffer(
         &mut self,
         buffer: BufferOp<L>,

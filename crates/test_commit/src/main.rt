@@ -1,5 +1,5 @@
 //! What commits when: runs of cases of transactions, which arrive under a lock, wait, are held, and
-//! commit at vsyncs. It reads cases from standard input, and tells what each line answers. Empty
+//! commit at vsyncs. It reads cases from standard input, and prints what each line answers. Empty
 //! lines and lines that begin with `#` are skipped; of a line that can't be done it says so.
 //!
 //! | Line | What it says |
@@ -12,7 +12,7 @@
 //! | `barrier LAYER FRAME` | it waits for a frame of a layer |
 //! | `desire TIME` | its desired present time |
 //! | `seen TIMELINE VALUE`, `writes COUNT` | what was observed of a timeline; so many writes ended |
-//! | `frame LAYER FRAME` | to whoever decides a hold: a frame was committed for a layer |
+//! | `frame LAYER FRAME` | for the decision of a hold: a frame was committed for a layer |
 //! | `fresh LAYER`, `pressed LAYER` | the layer got a buffer in this vsync, has backpressure |
 //! | `begin-vsync`, `clear-pressed` | a vsync begins; no layer has backpressure |
 //! | `ask EXPECTED MARK..` | what holds the next transaction at this expected present time, with a mark for each of its buffers: `drawn`, or `owed` |

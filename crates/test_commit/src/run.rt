@@ -1,4 +1,4 @@
-//! A case of vsyncs: does what each of its lines says, and tells what that answers.
+//! A case of vsyncs: does what each of its lines says, and prints what that answers.
 ghost use Rattle.std.specs.Prelude.{IfSome};
 ghost use Rattle.test_commit.specs.inner.Plain.{IsPlain};
 
@@ -64,7 +64,7 @@ impl Run {
         })
     }
 
-    /// Does what a line says, and tells what it answers; None where that can't be done.
+    /// Does what a line says, and returns what it answers; None where that can't be done.
     pub fn follow<W: Wait>(&mut self, rt: &W, line: &str, told: &mut String) -> Option<()> {
         let words = &mut line.split_whitespace();
         let form = words.next()?;
@@ -128,7 +128,7 @@ impl Run {
         Some(())
     }
 
-    /// The next transaction, or what is told to whoever decides a hold, changes for a layer.
+    /// The next transaction, or what the decision of a hold is given, changes for a layer.
     fn change(&mut self, form: &str, words: &mut SplitWhitespace<'_>) -> Option<()> {
         let layer = layer(words)?;
         match form {
@@ -143,8 +143,8 @@ impl Run {
         Some(())
     }
 
-    /// A time, what was observed, or what is told to whoever decides a hold, of no layer; or a
-    /// change for a layer.
+    /// A time, what was observed, or what the decision of a hold is given, of no layer; or a change
+    /// for a layer.
     fn observe(&mut self, form: &str, words: &mut SplitWhitespace<'_>) -> Option<()> {
         match form {
             "desire" => self.next.desire(number64(words)?),
@@ -233,7 +233,7 @@ impl Run {
         Some(())
     }
 
-    /// What whoever knows of so many ended writes sees of the pages in the queues.
+    /// What an eye that knows of so many ended writes sees of the pages in the queues.
     fn look(&mut self, words: &mut SplitWhitespace<'_>, told: &mut String) -> Option<()> {
         self.eye.count = number32(words)?;
         let looks = self.queues.look(&mut self.eye).ok()?;

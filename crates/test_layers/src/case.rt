@@ -247,7 +247,7 @@ impl Case {
         }
     }
 
-    /// Does what a line says, or tells that it says nothing.
+    /// Does what a line says, or reports that it says nothing.
     pub fn follow<R: Print + Threads + Sync>(&mut self, rt: &R, line: &str) -> io::Result<()> {
         if line.starts_with("case ") {
             println!(rt; "{line}")?;

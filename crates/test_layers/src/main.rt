@@ -1,7 +1,7 @@
 //! Runs of operations on layers, and of calls on regions, rows of pixels, pictures and fences: it
 //! reads cases from standard input, does what they say to a layer tree, to two transactions and to
-//! stacks of regions and pictures, and prints what comes of it. Empty lines and lines that begin with
-//! `#` are skipped; a line that says nothing is told.
+//! stacks of regions and pictures, and prints what comes of it. Empty lines and lines that begin
+//! with `#` are skipped; a line that says nothing is reported.
 //!
 //! | Line | What it says |
 //! |---|---|
@@ -31,7 +31,7 @@
 //! | `show` | all that the transaction holds |
 //! | `other` | the other transaction takes its place |
 //! | `merge` | the other transaction is merged into it, and is empty then |
-//! | `look N` | one look at each buffer of the transaction, by whoever knows of N writes that ended; the page of number M is written by the M-th |
+//! | `look N` | one look at each buffer of the transaction, by an eye that knows of N writes that ended; the page of number M is written by the M-th |
 //! | `read N` | the transaction is taken apart, and each buffer that is written is read in two turns; it is empty then |
 //! | `commit` | the transaction's operations are applied to the tree |
 //!

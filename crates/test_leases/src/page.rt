@@ -9,8 +9,9 @@ use sf_txn::Lease;
 use std::alloc::Global;
 use std::marker::Model;
 
-/// A lease of a buffer whose picture has its number. Its write has ended for whoever knows of as many
-/// writes as the number says. Each reading hands on the page's next turn, with pixels of its own.
+/// A lease of a buffer whose picture has its number. Its write has ended for an eye that knows of
+/// as many writes as the number says. Each reading hands on the page's next turn, with pixels of
+/// its own.
 #[derive(Drop)]
 pub struct Page {
     number: u32,

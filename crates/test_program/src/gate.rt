@@ -33,7 +33,8 @@ impl Side {
         }
     }
 
-    /// Waits for at most so many turns until the actor has come to a step, and tells whether it has.
+    /// Waits for at most so many turns until the actor has come to a step, and returns whether it
+    /// has.
     fn comes_to(&self, step: u32, turns: u32) -> bool {
         for _ in 0..turns {
             if self.entered.load(Ordering::SeqCst) >= step {
@@ -84,7 +85,7 @@ impl MeetingGate {
         passes.into_inner()
     }
 
-    /// Want of memory leaves the step out, which shows as one that is missing.
+    /// Out of memory leaves the step out, which shows as one that is missing.
     fn note<R: Wait>(&self, rt: &R, actor: u32, step: u32) {
         let mut passes = self.passes.lock(rt);
         let _ = passes.push((u64::from(actor), u64::from(step)));
@@ -114,8 +115,8 @@ impl Gate for MeetingGate {
 /// For how many turns an actor rests at a gate that lets all others go on.
 const REST: u32 = 1_000;
 
-/// A gate at which each actor rests before each step, so that whoever is told of a step sees it before the
-/// next one.
+/// A gate at which each actor rests before each step, so that who waits for a step sees it before
+/// the next one.
 pub struct SlowGate;
 
 impl Gate for SlowGate {

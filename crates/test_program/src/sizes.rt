@@ -5,7 +5,7 @@ use sf_io::MemSink;
 use std::alloc::Global;
 use std::io;
 
-/// How many bytes a history of so many calls has, the number of each call in place of its step.
+/// How many bytes a history of so many calls has, the number of each call instead of its step.
 pub fn history_length(alloc: Global, calls: u32) -> io::Result<usize> {
     let mut entries = Vec::new(alloc);
     for step in 0..calls {

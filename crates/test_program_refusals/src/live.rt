@@ -23,7 +23,7 @@ pub fn live_means<R: Threads + Wait + Sync, K: Sink, G: Gate + Sync, B: TableNam
     live_by_lock::<R, K, G, B>(engine, sink, gate, scene, seat, stock)
 }
 
-/// So has one whose transactions arrive through a queue, where no sender is told its place.
+/// So has one whose transactions arrive through a queue, where no sender learns its place.
 pub fn live_queue_means<
     R: Threads + Wait + Sync,
     K: Sink,

@@ -134,7 +134,7 @@ impl<B: TableName> Compositor<B> {
         Answer::Plain("lent")
     }
 
-    /// Takes the pixels back, and tells what the layer shows then.
+    /// Takes the pixels back, and returns what the layer shows then.
     pub fn give_back(&mut self) -> Answer {
         let Some(contents) = self.lent.take() else {
             return Answer::Plain("not lent");

@@ -1,6 +1,6 @@
 //! What is read of scripts and of words. Standard input is a table of parts, each behind a title:
 //!
-//! | Title | The part, and what is told of it |
+//! | Title | The part, and what is printed of it |
 //! |---|---|
 //! | `== NAME` | a script: what `parse` says of it |
 //! | `=+ LINE` | the last script behind a `==`, with this line and those that follow behind it |

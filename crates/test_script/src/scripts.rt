@@ -1,5 +1,5 @@
-//! What is told of each part of a table, as text: of a script its first fault or none, and that of
-//! its cuts; of words what they ask for.
+//! What is printed of each part of a table, as text: of a script its first fault or none, and that
+//! of its cuts; of words what they ask for.
 use crate::asked::push_all_asked;
 use sf_base::NoMemory;
 use sf_script::{ParseFault, ScriptFault, parse};
@@ -105,7 +105,7 @@ fn push_cuts(told: &mut Vec<u8>, alloc: Global, script: &[u8]) -> Result<(), NoM
     Ok(())
 }
 
-/// What is told of a part, by its title.
+/// What is printed of a part, by its title.
 fn push_part(told: &mut Vec<u8>, alloc: Global, title: &[u8], part: &[u8]) -> Result<(), NoMemory> {
     if let [b'=', b'?', ..] = title {
         return push_all_asked(told, alloc, part);
@@ -118,7 +118,7 @@ fn push_part(told: &mut Vec<u8>, alloc: Global, title: &[u8], part: &[u8]) -> Re
     }
 }
 
-/// What is told of each part of a table.
+/// What is printed of each part of a table.
 pub fn told(alloc: Global, table: &[u8]) -> Result<Vec<u8>, NoMemory> {
     let mut told = Vec::new(alloc);
     let mut base = Vec::new(alloc);

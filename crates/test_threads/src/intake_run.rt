@@ -148,7 +148,7 @@ fn take_some<R: Wait>(
 }
 
 /// All that the three sent, in the order in which it was taken: what a take gives once all is sent,
-/// which tells the newest stamp, and the rest.
+/// which shows the newest stamp, and the rest.
 fn taken<R: Threads + Wait + Sync>(rt: &R, alloc: Global) -> Option<Vec<Arrived<Page>>> {
     let (intake, mut taker) = Intake::<Page, Brand>::open(alloc).ok()?;
     let (first, second, third) = make_senders(&intake, &mut taker)?;

@@ -41,7 +41,7 @@ pub record KeepsPainted (old new : List ℕ) : Type 0 where
   pub size : length new ≡ length old
   pub each : (i : ℕ) → 0 < slice_index old i → 0 < slice_index new i
 
--- the painted pixels of a row are the picture's, and the first so many fills tell the bare ones
+-- the painted pixels of a row are the picture's, and the first so many fills determine the bare ones
 pub record ShowsMarked (picture : Picture) (count y : ℕ) (leaps bytes : List ℕ) : Type 0 where
   pub painted : (x : ℕ) → x < picture.width → 0 < slice_index leaps x → pixel_in bytes (y * picture.width + x) ≡ pixel_at picture x y
   pub bare : (x : ℕ) → x < picture.width → slice_index leaps x ≡ 0 → colour_at picture.fills x y ≡ colour_at (take count picture.fills) x y

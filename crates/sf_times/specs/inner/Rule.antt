@@ -1,4 +1,4 @@
--- What holds between any two atomic steps, and what each kind of step on a word tells. The word t
+-- What holds between any two atomic steps, and what each kind of step on a word shows. The word t
 -- is the counter of timeline t. The word 0 is no counter.
 use Rattle.std.specs.Prelude.{◌≡◌, ℕ, ◌+◌, ◌<◌, ◌≤◌, true, List, [], ◌⊎◌, length, slice_index, Contains, sum_by}
 use mathlib.Core.Option.{some}
@@ -45,7 +45,7 @@ Loads st m n m' =
     × (IsAlone m.0 → n ≡ greatest st.word m.0.signals)
     × (IsAlone m'.0 → OnlyOwnSignals m'.0)
 
--- a load that changes nothing, and tells the first seat, alone, what its earlier loads showed
+-- a load that changes nothing, and shows the first seat, alone, what its earlier loads showed
 abbrev pub Audits : Step (Unit {0}) → Me (Unit {0}) Knows → ℕ → Me (Unit {0}) Knows → Type 0
 Audits st m n m' = (m' ≡ m) × (IsAlone m'.0 → OnlyOwnSignals m'.0)
 
