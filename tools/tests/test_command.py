@@ -14,6 +14,7 @@ PROGRAM = run.built(run.TOP)
 NO_RECORDS = (b"sf_main: records are binary and are not written to a terminal; "
               b"write them to a file (> RECORDS) or through a pipe, or ask for --help\n")
 WAITS = b"sf_main: waits for a script on standard input, from the terminal; Ctrl-D ends it\n"
+VERSION = b"sf_main 1.0.0 (scripts 1 and 2, records 1)"
 USAGE = b"usage: sf_main [--run play|live|gen] [--workers N] [--number N] [--summary] [--intake lock|queue]\n"
 
 
@@ -88,7 +89,7 @@ class Command(unittest.TestCase):
         self.assertEqual(called("-h"), (0, page, b""))
 
     def test_the_version_stands_alone(self):
-        self.assertEqual(called("--version"), (0, b"sf_main 0.1.0\n", b""))
+        self.assertEqual(called("--version"), (0, VERSION + b"\n", b""))
 
     def test_wrong_words_are_told_and_nothing_is_played(self):
         for words in (("--fast",), ("scene.sf",), ("--run",), ("--run", "sideways"), ("--workers", "0"), ("--workers", "17"), ("--number", "-1"),
@@ -142,7 +143,7 @@ class Command(unittest.TestCase):
     def test_text_is_written_to_a_terminal_and_wrong_words_are_told(self):
         with Terminal() as terminal:
             self.assertEqual(called("--version", stdout=terminal.program), (0, None, b""))
-            self.assertEqual(terminal.shown(), b"sf_main 0.1.0\r\n")
+            self.assertEqual(terminal.shown(), VERSION + b"\r\n")
             self.assertEqual(called("--fast", stdin=terminal.program, stdout=terminal.program), (1, None, USAGE))
 
     def test_a_script_that_is_typed_is_waited_for(self):

@@ -18,14 +18,33 @@ from surbeldoi.script.scenes import read_scene
 from tests.test_scenes import of_some_form
 
 # How many words a sentence has at most; a piece of code counts as one.
-MOST_WORDS = 35
+MOST_WORDS = 34
 # A screen, in lines and columns.
 SCREEN_LINES, SCREEN_COLUMNS = 50, 100
+# How many words the pages have at most, and the cells of tables on pages that are read aloud.
+MOST_WORDS_OF_A_PAGE = {"README.md": 900, "docs/ARCHITECTURE.md": 1500, "docs/PROVED.md": 8000}
+MOST_WORDS_OF_A_CELL = {"README.md": 30, "CONTRIBUTING.md": 30, "docs/MEANING.md": 30, "docs/PERFORMANCE.md": 30, "docs/PROVED.md": 45}
+# What is not written on a page, each with what is written there.
+PLAIN = {
+    r"tells?|telling|told": "say, report, imply, return",
+    r"want of memory": "out of memory",
+    r"whoever": "the caller, the reader, or who it is",
+    r"what is due|what is to be done": "a noun, as the outputs due",
+    r"in place of": "instead of",
+    r"but for": "except",
+    r"as ever": "as before",
+    r"no longer|any more|since then|formerly|used to|not measured yet|by now": "what stands; what changed is for CHANGELOG",
+}
 DOCUMENTS = ["README.md", "CONTRIBUTING.md", "CHANGELOG.md"] + sorted(os.path.relpath(path, TOP) for path in glob.glob(os.path.join(TOP, "docs", "**", "*.md"), recursive=True))
 
 
 def text(path):
     with open(os.path.join(TOP, path), encoding="utf-8") as file:
+        return file.read()
+
+
+def data(path):
+    with open(os.path.join(TOP, path), "rb") as file:
         return file.read()
 
 
@@ -37,13 +56,28 @@ def prose(page):
 
 
 def sentences(page):
-    """The sentences of a page: each ends with a full stop, a colon, a mark or its paragraph."""
-    return [sentence for block in prose(page) for sentence in re.split(r"(?<=[.!?:])(?:\*\*|\))*\s+", block.strip()) if sentence]
+    """The sentences of a page: each ends with a full stop, a mark or its paragraph, and not with a colon."""
+    return [sentence for block in prose(page) for sentence in re.split(r"(?<=[.!?])(?:\*\*|\))*\s+", block.strip()) if sentence]
 
 
 def words(page):
     """The words of a page, those of its tables too; no pictures, and no rules and bars of tables."""
     return re.sub(r"```.*?```|^\|[-|]+$", "", page, flags=re.S | re.M).replace("|", " ").split()
+
+
+def cells(page):
+    """The cells of a page's tables, heads included."""
+    return [cell.strip() for row in re.findall(r"^\|(.*)\|$", page, re.M) for cell in row.split(" | ")]
+
+
+def rows_of(page):
+    """The rows of a page's tables, each as its cells, without heads and rules."""
+    return [[cell.strip() for cell in row.split("|")] for row in re.findall(r"^\| (.*) \|$", re.sub(r"^.*\n\|[-|]+\|$", "", page, flags=re.M), re.M)]
+
+
+def section(page, heading):
+    """What stands under a heading of a page, up to the next one."""
+    return re.split(r"^#+ ", page.split(f"## {heading}\n", 1)[1], flags=re.M)[0]
 
 
 def lines_of_a_screen(page):
@@ -58,8 +92,7 @@ def anchors(path):
 
 def indented(path, heading):
     """The indented blocks under a heading, each as its lines."""
-    section = re.split(r"^#+ ", text(path).split(f"## {heading}\n", 1)[1], flags=re.M)[0]
-    return [re.findall(r"^    (.*)$", block, re.M) for block in re.split(r"\n\n", section) if block.startswith("    ")]
+    return [re.findall(r"^    (.*)$", block, re.M) for block in section(text(path), heading).strip("\n").split("\n\n") if block.startswith("    ")]
 
 
 def without_comments(path):
@@ -101,8 +134,63 @@ class Documents(unittest.TestCase):
                     self.assertIn(anchor, anchors(page), f"{path}: {target}")
 
     def test_pages_are_short(self):
-        for path, most in (("README.md", 900), ("docs/ARCHITECTURE.md", 1500), ("docs/PROVED.md", 8000)):
-            self.assertLessEqual(len(words(text(path))), most, path)
+        for path, most in MOST_WORDS_OF_A_PAGE.items():
+            with self.subTest(path=path):
+                found = len(words(text(path)))
+                self.assertLessEqual(found, most, f"{path} has {found} words, and may have {most}")
+
+    def test_cells_of_tables_are_short(self):
+        for path, most in MOST_WORDS_OF_A_CELL.items():
+            for cell in cells(text(path)):
+                self.assertLessEqual(len(cell.split()), most, f"{path}: a section or a list is read more easily than this cell: {cell[:100]}")
+
+    def test_words_are_plain(self):
+        for path in DOCUMENTS:
+            page = " ".join(re.sub(r"`[^`]*`", "`", re.sub(r"```.*?```|^    .*$", "", text(path), flags=re.S | re.M)).split())
+            for worse, better in PLAIN.items() if path != "CHANGELOG.md" else ():
+                found = re.search(rf"\b(?:{worse})\b", page, re.I)
+                self.assertIsNone(found, f"{path}: {better}, instead of: {found and page[max(0, found.start() - 40):found.end() + 40]}")
+
+    def test_the_first_screen_says_what_it_is_for_and_shows_it(self):
+        page = text("README.md")
+        first = page.split("\n\n")[1]
+        self.assertEqual(len(sentences(first)), 3, f"README.md: what trouble this ends, for whom, and what one does with it, in three sentences: {first}")
+        screen = "\n".join(page.splitlines()[:SCREEN_LINES])
+        for what in ("Rattle's kit", "Python 3.8", "python3 tools/run.py", "docs/pictures/switch.png"):
+            self.assertIn(what, screen, f"README.md: {what} stands on the first screen")
+        self.assertIn(b"acTL", data("docs/pictures/switch.png"), "docs/pictures/switch.png has to move")
+
+    def test_a_body_is_changed_by_two_commands_that_fit(self):
+        (commands,) = indented("README.md", "Change a body")
+        self.assertEqual(len(commands), 2, "README.md: two commands, the second of which changes a body")
+        old, new = re.search(r"'s/([^/]*)/([^/]*)/'", commands[1]).groups()
+        (crate,) = set(re.findall(r"crates/(\w+)", " ".join(commands)))
+        source = text(os.path.join("crates", crate, re.search(r"src/\S+", commands[1]).group(0)))
+        self.assertEqual(source.count(old), 1, f"the second command of README.md has to change one place of {crate}: {old}")
+        self.assertIn(f"`{new}` instead of `{old}`", text("CONTRIBUTING.md"), "README.md and CONTRIBUTING.md change the same body")
+
+    def test_figures_of_two_pages_agree(self):
+        figures = {path: {int(minutes) for minutes in re.findall(r"some (\d+) processor minutes from nothing", text(path))} for path in ("README.md", "CONTRIBUTING.md", "docs/GATE.md")}
+        (gate,) = figures["docs/GATE.md"]
+        for path, found in figures.items():
+            self.assertEqual(found, {gate}, f"{path}: what the gate takes, as docs/GATE.md has it")
+        build = int(re.search(r"The first time takes some (\d+) processor minutes", text("README.md")).group(1))
+        self.assertLess(build, gate, "README.md: to build the program takes less than the gate, which contains it")
+        seconds = {row[0]: int(row[1]) + int(row[2]) for row in rows_of(text("docs/GATE.md")) if len(row) == 3 and row[1].isdigit()}
+        self.assertLessEqual(sum(seconds.values()) / 60, gate * 1.1, "docs/GATE.md: the sentence on the gate and the rows of its table")
+        for path in ("README.md", "CONTRIBUTING.md"):
+            self.assertIn("three minutes", text(path), f"{path}: what the quick test takes")
+            self.assertIn("half a minute", text(path), f"{path}: what sf_base takes")
+
+    def test_where_it_is_behind_comes_first(self):
+        page = text("docs/PERFORMANCE.md")
+        self.assertEqual(re.search(r"^## (.*)$", page, re.M).group(1), "Where it is behind", "docs/PERFORMANCE.md: first where others are faster")
+        behind = [cell for row in rows_of(section(page, "Where it is behind")) for cell in row]
+        self.assertGreater(len(behind), 0)
+        calls = {row[0]: row[1] for row in rows_of(section(page, "A queue call"))}
+        whole = [cost for what, cost in calls.items() if "lock" in what]
+        self.assertEqual(len(whole), 1, "docs/PERFORMANCE.md: one row has a cycle with its lock")
+        self.assertTrue(any(cell.startswith(whole[0]) for cell in behind), f"docs/PERFORMANCE.md: {whole[0]} for a queue call, in both tables")
 
     def test_the_page_for_contributors_is_two_screens(self):
         self.assertLessEqual(lines_of_a_screen(text("CONTRIBUTING.md")), 2 * SCREEN_LINES)
@@ -140,12 +228,34 @@ class Documents(unittest.TestCase):
                 named_files += 1
         self.assertGreater(named_files, 50)
 
+    def test_the_recipes_name_definitions_that_stand(self):
+        silent = 0
+        for where, what in re.findall(r"^\| (.*) \| (.*) \|$", text("docs/RECIPES.md"), re.M):
+            names = set().union(*(names_in(crate) for crate in re.findall(r"`(\w+)`", where)))
+            for name in named(re.findall(r"\[([^\]]*)\](?!\()", what)):
+                self.assertTrue(name in names, f"{where}: {name}, on which the checker is silent")
+                silent += 1
+        self.assertGreater(silent, 15)
+
+    def test_the_recipes_look_for_words_that_stand(self):
+        proofs = "\n".join(map(text, glob.glob(os.path.join(TOP, "crates", "*", "proofs", "**", "*.antt"), recursive=True)))
+        asked = re.findall(r"`grep -rlw? ([^`]*) crates/\*/proofs`", text("docs/RECIPES.md"))
+        self.assertEqual(len(asked), 3)
+        for word in " ".join(asked).replace("-e ", "").split():
+            self.assertRegex(proofs, rf"\b{re.escape(word)}\b", f"{word}, which a recipe looks for")
+
     def test_counts_of_scenes_and_stored_runs_are_today_s(self):
         stored = text("crates/test_program/stdout")
         self.assertIn(f"- {len(re.findall(r'^== .* status 0$', stored, re.M))} runs end with 0", text("docs/PROVED.md"))
         names = [name for name, _ in worked_scenes()]
         here = sum(name.startswith("scenes" + os.sep) for name in names)
         self.assertIn(f"the {here} in `scenes/` and the {len(names) - here} in `crates/test_program/data/`", text("docs/JUDGING.md"))
+
+    def test_the_program_says_the_newest_version_that_changed_something(self):
+        newest = re.search(r"^## (\d+\.\d+\.\d+)", text("CHANGELOG.md"), re.M).group(1)
+        version = re.search(r'"(sf_main \d.*)"', text("crates/sf_main/src/help.rt")).group(1)
+        self.assertEqual(version, f"sf_main {newest} (scripts 1 and 2, records 1)", "the version of the program, of scripts and of records")
+        self.assertIn("scripts 1 and 2 ([SCRIPT](docs/SCRIPT.md)), records 1 ([RECORDS](docs/RECORDS.md))", text("CHANGELOG.md"))
 
     def test_the_page_on_viewing_names_what_a_run_leaves(self):
         page = text("docs/VIEWING.md")

@@ -92,6 +92,14 @@ class Edits(unittest.TestCase):
         said = "rt: must-fail low/a.edit: refused, as it must be: src/lib.rt:1:1: error\nrt: must-fail low/b.edit: NOT REFUSED: the crate\nrt: must-fail high/c.edit: refused\n"
         self.assertEqual(edits.refused_in(said, "low"), ["a"])
 
+    def test_edits_of_one_function_are_tried_in_different_checks(self):
+        self.write("crates/low/src/lib.rt", TEXT + "\nfn thrice(n: u32) -> u32 {\n    3 * n\n}\n")
+        for name, old, new in (("a", "n + n", "n"), ("b", "n + n", "1"), ("c", "3 * n", "n"), ("d", "fn twice(n: u32)", "fn twice(m: u32)")):
+            self.write(f"crates/low/wrong/{name}.edit", f"file: src/lib.rt\nold: {old}\nnew: {new}\n")
+        self.write("crates/low/wrong/e.edit", "file: src/lib.rt\nold: n + n\nnew: n\nold: 3 * n\nnew: n\n")
+        rounds = edits.rounds_of(edits.edits_of("low", top=self.top))
+        self.assertEqual([{name: function.path for name, (_, function) in it.items()} for it in rounds], [{"a": "twice", "c": "thrice"}, {"b": "twice"}, {"d": "twice"}])
+
     def test_which_edits_were_tried_at_their_text(self):
         known, named = edits.stamps(), edits.crates()
         self.assertLessEqual(set(known), set(edits.with_edits(named)), "docs/edits.tsv names a crate without edits")

@@ -1,4 +1,4 @@
-"""Tests of what modules are called, and of their heads: each file of src/ begins with a line or two that say what is in it."""
+"""Tests of what modules are called, of their heads, and of the words of comments: each file of src/ begins with a line or two that say what is in it."""
 
 import glob
 import os
@@ -12,9 +12,24 @@ GERUND = re.compile(r"[A-Z][a-z]+(?:ing|ings|ed)\.antt")
 # Figures of speech, each with the plain word.
 FIGURES = {"Tales": "traces", "Worlds": "states of a run", "Looks": "loads", "Looking": "loads", "Eyes": "observers"}
 
+# What no comment of code and definitions says, each with what it says.
+PLAIN = {
+    r"tells?|telling|told": "say, report, return, show",
+    r"want of memory": "out of memory",
+    r"whoever": "who it is: the caller, the starter, the visitor",
+    r"what is due": "the outputs due",
+}
+
 
 def modules(*parts):
     return sorted(glob.glob(os.path.join(TOP, "crates", "*", *parts), recursive=True))
+
+
+def comments(path):
+    """The comments of a file's own lines, as one text without pieces of code."""
+    with open(path, encoding="utf-8") as file:
+        found = [re.sub(r"^\s*(//[/!]?|--)", "", line).strip() for line in file if line.lstrip().startswith(("//", "--"))]
+    return re.sub(r"`[^`]*`", "`", " ".join(found))
 
 
 class Heads(unittest.TestCase):
@@ -37,6 +52,13 @@ class Heads(unittest.TestCase):
         for path in paths:
             name = os.path.basename(path)[:-len(".antt")]
             self.assertNotIn(name, FIGURES, f"{os.path.relpath(path, TOP)} is a figure of speech for {FIGURES.get(name)}")
+
+    def test_comments_have_plain_words(self):
+        for path in modules("src", "**", "*.rt") + modules("specs", "**", "*.antt"):
+            text = comments(path)
+            for worse, better in PLAIN.items():
+                found = re.search(rf"\b(?:{worse})\b", text, re.I)
+                self.assertIsNone(found, f"{os.path.relpath(path, TOP)}: {better}, instead of: {found and text[max(0, found.start() - 40):found.end() + 40]}")
 
 
 if __name__ == "__main__":

@@ -381,7 +381,8 @@ class Example(unittest.TestCase):
             self.assertEqual(self.judge(self.built(folder), scene), (0, "right: frames and commits: 2 commits, 2 frames\n"))
             status, said = self.judge(self.built(folder, "-DWRONG"), "--pictures", folder, scene)
             self.assertEqual(status, 1)
-            self.assertEqual(said.splitlines()[:-1], indented(PAGE, ABOUT)[0][:-1], "as the page has it")
+            _, verdict = indented(PAGE, ABOUT)
+            self.assertEqual(said.splitlines()[:-1], verdict[:-1], "as the page has it")
 
     def test_what_it_can_not_play_it_says(self):
         with tempfile.TemporaryDirectory() as folder:

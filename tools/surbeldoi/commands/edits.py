@@ -1,8 +1,9 @@
 """Wrong bodies beside the gate: edits that a crate's contracts have to refuse.
 
 The gate tries crates/NAME/must-fail/*.edit, a few that tell most; all others lie in crates/NAME/wrong/. They are tried
-on a copy, by `rt must-fail`, which begins with what `rt check` kept in the crate's out/. What was refused is noted in
-docs/edits.tsv with a sum of the text that it was refused at.
+on a copy, which begins with what `rt check` kept in the crate's out/: those of different functions in one check, since
+a function is proved by its own body and the contracts of others; what that leaves open one by one, by `rt must-fail`.
+What was refused is noted in docs/edits.tsv with a sum of the text that it was refused at.
 """
 
 import glob
@@ -14,6 +15,7 @@ import subprocess
 import tempfile
 
 from surbeldoi import TOP
+from surbeldoi.build import bodies
 from surbeldoi.commands import words
 from surbeldoi.commands.words import Command, WrongWords
 
@@ -179,7 +181,7 @@ def linked(source, target):
 
 
 def copy_for(name, named, room):
-    """Lays a crate and those below it into a folder, with what checks kept, and with its wrong bodies as must-fail edits."""
+    """Lays a crate and those below it into a folder, with what checks kept."""
     for crate in [name, *below(name, named)]:
         source, target = (os.path.join(top, "crates", crate) for top in (TOP, room))
         for part in ("src", "specs", "proofs"):
@@ -188,7 +190,6 @@ def copy_for(name, named, room):
         for kept in ("rlib", "incremental"):
             if os.path.isdir(os.path.join(source, "out", kept)):
                 linked(os.path.join(source, "out", kept), os.path.join(target, "out", kept))
-    shutil.copytree(os.path.join(TOP, "crates", name, "wrong"), os.path.join(room, "crates", name, "must-fail"))
     lines = [line for line in read(os.path.join(TOP, "crates.txt")).splitlines() if re.split(r"[\s:]", line)[0] in [name, *below(name, named)]]
     with open(os.path.join(room, "crates.txt"), "w", encoding="utf-8") as file:
         file.write("\n".join(lines) + "\n")
@@ -196,21 +197,85 @@ def copy_for(name, named, room):
     os.mkdir(os.path.join(room, ".git"))
 
 
+def name_of(edit):
+    return os.path.basename(edit)[: -len(".edit")]
+
+
 def refused_in(said, name):
     """The edits that `rt must-fail` says were refused."""
     return re.findall(rf"^rt: must-fail {name}/(\S+)\.edit: refused", said, re.M)
 
 
-def try_edits(name, named):
-    """Tries the edits of a crate; how many there are, and how many were refused."""
+def rounds_of(edits):
+    """Edits that change one function each, by rounds with no function twice: of each edit, by its name, the steps and the function."""
+    rounds = []
+    for edit in edits:
+        steps = steps_of(edit)
+        texts = {file: read(os.path.join(os.path.dirname(os.path.dirname(edit)), file)) for file, _, _ in steps}
+        function = bodies.changed(texts, steps)
+        if function:
+            free = next((it for it in rounds if all(function != taken for _, taken in it.values())), None)
+            if free is None:
+                free = {}
+                rounds.append(free)
+            free[name_of(edit)] = steps, function
+    return rounds
+
+
+def apply_to(folder, steps):
+    """Changes a crate's files by the steps of an edit."""
+    for file, old, new in steps:
+        path = os.path.join(folder, file)
+        text = read(path).replace(old, new)
+        with open(path, "w", encoding="utf-8") as out:
+            out.write(text)
+
+
+def try_together(name, named, chosen, jobs):
+    """Tries edits of different functions in one check; those that were refused, each with a cause in its own function."""
     with tempfile.TemporaryDirectory(prefix=f"edits-{name}-") as room:
         copy_for(name, named, room)
-        ran = subprocess.run(["rt", "must-fail", name], cwd=room, stdout=subprocess.PIPE, stderr=subprocess.STDOUT, text=True)
-    print(ran.stdout, end="", flush=True)
-    return len(edits_of(name)), len(refused_in(ran.stdout, name))
+        folder = os.path.join(room, "crates", name)
+        for steps, _ in chosen.values():
+            apply_to(folder, steps)
+        functions, strange = {edit: function for edit, (_, function) in chosen.items()}, ""
+        while functions and strange is not None:
+            asked = [word for function in functions.values() for word in ("--only", function.path)]
+            said = said_by(["rt", "check", *jobs, *asked], folder)
+            strange = bodies.unknown(said)
+            functions = {edit: function for edit, function in functions.items() if function.path != strange}
+    return bodies.refused(said, name, functions)
 
 
-def try_all(names):
+def try_alone(name, named, edits):
+    """Tries edits one by one; the names of those that were refused."""
+    with tempfile.TemporaryDirectory(prefix=f"edits-{name}-") as room:
+        copy_for(name, named, room)
+        folder = os.path.join(room, "crates", name, "must-fail")
+        os.makedirs(folder)
+        for edit in edits:
+            shutil.copy(edit, folder)
+        said = said_by(["rt", "must-fail", name], room)
+    print(said, end="", flush=True)
+    return refused_in(said, name)
+
+
+def said_by(command, folder):
+    return subprocess.run(command, cwd=folder, stdout=subprocess.PIPE, stderr=subprocess.STDOUT, text=True).stdout
+
+
+def try_edits(name, named, jobs):
+    """Tries the edits of a crate; how many there are, and how many were refused."""
+    edits, refused = edits_of(name), {}
+    for chosen in rounds_of(edits):
+        refused.update(try_together(name, named, chosen, jobs))
+    for edit, cause in refused.items():
+        print(f"{name}/{edit}: refused: {cause}", flush=True)
+    left = [edit for edit in edits if name_of(edit) not in refused]
+    return len(edits), len(refused) + (len(try_alone(name, named, left)) if left else 0)
+
+
+def try_all(names, jobs):
     """Tries the edits of crates, one after another, and notes what was refused; the status."""
     named, status = crates(), 0
     for name in names:
@@ -218,7 +283,7 @@ def try_all(names):
             print(f"{name} has no edits in wrong/")
             continue
         total = sum_of(name, named)
-        many, refused = try_edits(name, named)
+        many, refused = try_edits(name, named, jobs)
         print(f"{name}: {refused} of {many} refused", flush=True)
         if refused < many:
             status = 1
@@ -246,6 +311,7 @@ def take(parser):
     ways.add_argument("--stale", action="store_true", help="which crates changed since their edits were tried")
     ways.add_argument("--since", metavar="COMMIT", help="tries those of each crate that changed since, or that cites one that did")
     ways.add_argument("--all", action="store_true", help="tries those of each crate")
+    parser.add_argument("--jobs", metavar="N", type=words.number(1, 64), help="how many jobs a check of several edits may have; rt chooses if not given")
 
 
 def check_names(options):
@@ -264,9 +330,10 @@ def run(options):
         return tell_faults()
     if options.stale:
         return tell_stale()
+    jobs = ["--jobs", str(options.jobs)] if options.jobs else []
     if options.all:
-        return try_all(with_edits(crates()))
-    return try_all(options.names if options.since is None else changed_since(options.since))
+        return try_all(with_edits(crates()), jobs)
+    return try_all(options.names if options.since is None else changed_since(options.since), jobs)
 
 
 def main(given):
