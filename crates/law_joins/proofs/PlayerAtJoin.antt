@@ -279,7 +279,7 @@ module _ {B : Type 0} (lease : Ghosts ReadLeaseOf SeatView ReadLeaseOf Issued) (
       (subst (λ (seats : Seats B). GoesOnWithout 0 ((view_of seats).calls queue) ((view_of j.first.seats).calls queue)) j.at_last
       (meets_calls 0 queue j.attended all_seats j.first (ap by_of j.at_last ∙ first_by) j.met))
 
-  known : IsKnown joined desk.arrivals last.seats
+  pub known : IsKnown joined desk.arrivals last.seats
   known = record {
     calls = λ queue. (called queue).begins;
     arrivals = arrivals_go.begins;
@@ -358,7 +358,7 @@ module _ {B : Type 0} (lease : Ghosts ReadLeaseOf SeatView ReadLeaseOf Issued) (
         exact = λ exact t low high. value-values joined.times.signals t low high;
       }
 
-  steps : KnowsSteps scene joined.times made
+  pub steps : KnowsSteps scene joined.times made
   steps = record { only = is.knows.signals; by_steps = signals; declared = declared }
 
   -- what was taken shows frames that calls gave
@@ -379,10 +379,10 @@ module _ {B : Type 0} (lease : Ghosts ReadLeaseOf SeatView ReadLeaseOf Issued) (
   pub reports_are : vsyncs_in so.events ≡ reports
   reports_are = vsyncs_are reports ofs
 
-  taken_are : taken_at play ≡ map plain_arrival taken
+  pub taken_are : taken_at play ≡ map plain_arrival taken
   taken_are = take-map plain_arrival (taken_in desk.arrivals) (sent desk.arrivals) ∙ ap (map plain_arrival) has.front
 
-  told_are : told_at scene so play ≡ told_in lease table locks period scene j.log
+  pub told_are : told_at scene so play ≡ told_in lease table locks period scene j.log
   told_are = λ i. told_of scene (taken_are i) (reports_are i)
 
   same_handler : IsSameHandler (new_handler scene.width scene.height most) last.handler
@@ -428,10 +428,10 @@ module _ {B : Type 0} (lease : Ghosts ReadLeaseOf SeatView ReadLeaseOf Issued) (
     pub draws_placed : RightsStand scene (calls_over home joined) (state_of home joined ofs last.handler) → DrawsStand scene home joined ofs last.handler
     draws_placed rights = draws_stand scene ofs home joined j.limits actors (picture_at scene.pictures) table.slots last.handler ledger (over ledger) exact rights.placed
 
-    wrote : KnowsWritten lease joined (written_in scene run)
+    pub wrote : KnowsWritten lease joined (written_in scene run)
     wrote = knows_written scene table.slots home joined ofs last.handler j.limits actors ledger (over ledger) exact (called_there desk.queues) lease by_counts
 
-    begins_played : HasPlayed frame_of scene (written_in scene run) [] [] j.begins.handler
+    pub begins_played : HasPlayed frame_of scene (written_in scene run) [] [] j.begins.handler
     begins_played = subst (HasPlayed frame_of scene (written_in scene run) [] []) (sym (j.handler ∙ ap (λ (n : ℕ). new_handler scene.width scene.height n) is.same_most))
         (none_played frame_of scene (written_in scene run) scene.width scene.height)
 

@@ -7,7 +7,8 @@ use Rattle.law_threads.specs.sf_live_compositor.Vsyncs.{Sitting}
 use Rattle.law_threads.specs.sf_live_seats.Seats.{tells_of}
 use Rattle.law_threads.specs.sf_live_seats.declared.locks.Locks.{Locks}
 use Rattle.law_threads.specs.sf_live_threads.Walks.{Moment}
-use Rattle.law_threads.specs.sf_play.Players.{arrived_at, run_so}
+use Rattle.law_threads.specs.sf_play.Players.{arrived_at, run_so, taken_at, told_at}
+use Rattle.law_threads.specs.sf_play.Standing.{StandsInRun}
 use Rattle.law_threads.specs.sf_script_scene.Scene.{SceneValue}
 use Rattle.law_threads.specs.sf_surface.Tokens.{Issued, ReadLeaseOf}
 use Rattle.law_threads.specs.sf_turns.Views.{SeatView}
@@ -15,6 +16,7 @@ use Rattle.law_threads.specs.sf_txn.declared.lease.Lease.{Ghosts}
 use Rattle.law_threads.specs.law_played.Arrivals.{entry_of}
 use Rattle.law_threads.specs.law_played.Histories.{history_shown, rising_queues}
 use Rattle.law_threads.specs.law_played.Vsyncs.{vsyncs_in}
+use Rattle.law_rounds.specs.law_waits.Leaving.{LeavesNone}
 use Rattle.law_joins.specs.Joined.{IsJoined, player_joined, so_joined}
 
 module _ {B : Type 0} (lease : Ghosts ReadLeaseOf SeatView ReadLeaseOf Issued) (scene : SceneValue) (table : TableId) (period most : ℕ)
@@ -31,3 +33,11 @@ abbrev pub JoinsInOneOrder : (B : Type 0) → Ghosts ReadLeaseOf SeatView ReadLe
 JoinsInOneOrder B lease table =
     (scene : SceneValue) (period most : ℕ) (locks : Locks B) (last : Sitting B) (ends : List (Moment B)) (desk : PlainOf B)
     → (is : IsJoined lease scene table period most locks last ends desk) → InOneOrder (tells_of locks) (happened_so lease scene table period most locks last ends desk is)
+
+-- and where a player goes on with such a run, none of its vsyncs passes over an arrival
+abbrev pub JoinsPassNone : (B : Type 0) → Ghosts ReadLeaseOf SeatView ReadLeaseOf Issued → TableId → Type 0
+JoinsPassNone B lease table =
+    (scene : SceneValue) (period most : ℕ) (locks : Locks B) (last : Sitting B) (ends : List (Moment B)) (desk : PlainOf B)
+    → (is : IsJoined lease scene table period most locks last ends desk) → StandsInRun table scene (so_joined lease scene table period most locks last ends desk is) (player_joined scene ends desk last)
+    → LeavesNone (taken_at (player_joined scene ends desk last).play)
+    (told_at scene (so_joined lease scene table period most locks last ends desk is) (player_joined scene ends desk last).play)

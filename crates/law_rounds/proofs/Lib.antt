@@ -1,7 +1,13 @@
-pub mod ActionInOrder
+mod ActionCases
+mod ActionInOrder
+mod ActionShows
 mod ActorsInOrder
 mod CallInOrder
 mod DoneInOrder
+pub mod InOrder
+pub mod LeavingOn
+pub mod NoneAtEnd
+mod NonePassedOver
 mod OrderSoFar
 pub mod StandsInOrder
 mod StepInOrder

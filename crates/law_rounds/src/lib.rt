@@ -1,5 +1,6 @@
 //! A run that a player goes on with stays in one order: what its actors do and its vsyncs come behind
-//! all that happened before. How far each has come stands in specs/; here are laws.
+//! all that happened before, and no vsync passes over an arrival. How far each has come stands in
+//! specs/; here are laws.
 #![tactic(auto)]
 
 ghost use Rattle.law_rounds.specs.Rounds.{ComesSoFar, KeepsOrder};
@@ -12,8 +13,8 @@ pub fn a_player_has_come_so_far<B: TableName>()
     ensures { ComesSoFar B }
 {}
 
-/// An action of a player leaves all that it has shown in one order, also where threads did the steps
-/// before, and however transactions arrive.
+/// An action of a player leaves all that it has shown in one order, and no vsync passes over an arrival,
+/// also where threads did the steps before, and however transactions arrive.
 pub fn an_action_leaves_one_order<B: TableName>()
     ensures { KeepsOrder B ⟦<ReadLease<B> as Lease>⟧ }
 {}

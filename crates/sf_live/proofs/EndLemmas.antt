@@ -5,8 +5,10 @@ use Rattle.std.specs.List.{flat_map}
 use Rattle.std.proofs.lemmas.List.{append-nil, drop_more, take-append-drop, take_more}
 use Rattle.std.proofs.lemmas.List.Concat.{flat_map-append}
 use Rattle.atomic_table.specs.Seated.{TableId}
-use Rattle.law_rounds.specs.law_order.Order.{InOneOrder}
-use Rattle.law_rounds.specs.Rounds.{IsInOrder, happened_so}
+use Rattle.law_live_order.specs.law_rounds.law_order.Order.{InOneOrder}
+use Rattle.law_live_order.specs.law_rounds.law_waits.Leaving.{LeavesNone}
+use Rattle.law_live_order.proofs.law_rounds_lemmas.NoneAtEnd.{none_of_all}
+use Rattle.law_live_order.specs.law_rounds.Rounds.{IsInOrder, happened_so}
 use Rattle.sf_picture.specs.declared.picture.Picture.{Picture}
 use Rattle.sf_script_scene.specs.Scene.{SceneValue}
 use Rattle.sf_script_scene.specs.declared.step.ActorScript.{ActorScript}
@@ -32,6 +34,7 @@ use Rattle.sf_live_compositor.specs.law_played.Actors.{script_of}
 use Rattle.sf_live_compositor.specs.law_played.Played.{opening, records_of, reply_events}
 use Rattle.sf_live_compositor.specs.law_played.Replies.{replies_due, reply_shown}
 use Rattle.sf_live_compositor.specs.law_played.Runs.{rising_actors}
+use Rattle.sf_live_compositor.specs.law_played.Stages.{told_of}
 use Rattle.sf_live_compositor.proofs.sf_play_lemmas.Late.{fits_late, same_vsyncs}
 use Rattle.sf_live_compositor.specs.sf_play.Ending.{shows_at_end, shows_late}
 use Rattle.sf_live_compositor.specs.sf_play.Going.{EndsRun}
@@ -117,7 +120,7 @@ module _ {B : Type 0} where
         ∙ sym (append_assoc (opening scene ∷ events_records (vsyncs_alone so.events)) (events_records (flat_map (reply_events run) (rising_actors scene))) ends)
         ∙ ap (λ (rs : List Record). (opening scene ∷ rs) ++ ends) (sym (records_more (vsyncs_alone so.events) (flat_map (reply_events run) (rising_actors scene))))
 
-    -- they mean what a run in threads means, in one order
+    -- they mean what a run in threads means, in one order, with nobody passed over
     means_live : EndsRun scene so player → IsInOrder (home_in player.play).tells scene so player.play → All RecordFits (records_of scene (shows_late scene so player)) → MeansLive (home_in player.play).tells scene (records_of scene (shows_late scene so player))
     means_live ends in_order fit =
         let run = run_so so player.play in
@@ -127,7 +130,8 @@ module _ {B : Type 0} where
             played = record { shows = shows_late scene so player; order = refl; fit = fit; run = run; arrivals = arrived_at player.play; fits = fits_late table scene so player stands ends };
             late = ap (λ (vs : List VsyncRecords). map event.Vsync vs ++ flat_map (reply_events run) (rising_actors scene)) (sym same);
           };
-          order = subst (λ (vs : List VsyncRecords). InOneOrder (home_in player.play).tells (record (happened_so scene so player.play) { vsyncs = vs })) (sym same) in_order.order;
+          order = subst (λ (vs : List VsyncRecords). InOneOrder (home_in player.play).tells (record (happened_so scene so player.play) { vsyncs = vs })) (sym same) in_order.order.order;
+          none = subst (λ (vs : List VsyncRecords). LeavesNone (arrived_at player.play) (told_of scene (arrived_at player.play) vs)) (sym same) (none_of_all table scene so player.play stands.stands.stands in_order.none);
         }
 
   module _ (table : TableId) (scene : SceneValue) (a b c : Option (List ℕ)) (player : PlayerOf B) (has : HasShownAll table scene a b player) where

@@ -19,13 +19,17 @@ use Rattle.sf_live_compositor.specs.law_played.Vsyncs.{vsyncs_in}
 use Rattle.sf_live_compositor.specs.sf_play.Players.{PlayerOf, SoFar, before_round, home_in}
 use Rattle.sf_live_compositor.specs.sf_play.Standing.{StandsInRun}
 use Rattle.sf_live_compositor.specs.sf_play_write.Writing.{Writes}
+use Rattle.sf_live_compositor.proofs.sf_play_lemmas.HandlerLeases.{OfFrames}
 use Rattle.sf_live_compositor.proofs.sf_play_write_lemmas.WritingLemmas.{writes_more}
 use Rattle.sf_live_compositor.specs.sf_live_seats.Seats.{tells_of}
 use Rattle.sf_live_compositor.specs.sf_live_seats.declared.locks.Locks.{Locks}
-use Rattle.law_rounds.specs.law_order.Order.{InOneOrder}
-use Rattle.law_rounds.specs.Rounds.{IsInOrder, happened_so}
-use Rattle.law_rounds.proofs.StandsInOrder.{so_far}
+use Rattle.law_live_order.specs.law_rounds.law_order.Order.{InOneOrder}
+use Rattle.law_live_order.specs.law_rounds.Rounds.{IsInOrder, come_so, happened_so}
+use Rattle.law_live_order.proofs.law_rounds_lemmas.StandsInOrder.{so_far}
+use Rattle.law_live_order.specs.law_rounds.OrderSoFar.{IsOrderedSoFar}
 use Rattle.law_live_order.proofs.LiveOrder.{in_one_order}
+use Rattle.law_live_order.proofs.NoneUpToJoin.{none_up_to_join}
+use Rattle.law_live_order.proofs.law_joins_lemmas.WritesAtJoin.{KnowsByCounts}
 use Rattle.law_live_order.specs.law_joins.Frames.{AllFind}
 use Rattle.law_live_order.specs.law_joins.Joined.{player_joined, so_joined}
 use Rattle.law_live_order.specs.law_joins.Logs.{reports_of}
@@ -42,17 +46,19 @@ module _ {B : Type 0} (lease : Ghosts ReadLeaseOf SeatView ReadLeaseOf Issued) (
   pub same_player : before_round period order joined.actor_set handler vsyncs ≡ player_joined run.scene t.ends t.desk run.last
   same_player = λ i. before_round (goes.same_period i) (goes.same_order i) (t.actor_set i) (goes.same_handler i) (goes.same_vsyncs i)
 
-  module _ (find : AllFind lease table locks run.scene.period (picture_at run.scene.pictures) t.is.joins.log) (player : PlayerOf B) (is : player ≡ before_round period order joined.actor_set handler vsyncs)
+  module _ (frames : OfFrames lease) (by_counts : KnowsByCounts lease) (find : AllFind lease table locks run.scene.period (picture_at run.scene.pictures) t.is.joins.log) (player : PlayerOf B) (is : player ≡ before_round period order joined.actor_set handler vsyncs)
       (stands : StandsInRun table run.scene (so_joined lease run.scene table run.scene.period (most_layers run.scene.version) locks run.last t.ends t.desk t.is) (player_joined run.scene t.ends t.desk run.last))
       (reports : vsyncs_in (so_joined lease run.scene table run.scene.period (most_layers run.scene.version) locks run.last t.ends t.desk t.is).events ≡ reports_of lease table locks run.scene.period run.scene t.is.joins.log) where
     abbrev so : SoFar B
     so = so_joined lease run.scene table run.scene.period (most_layers run.scene.version) locks run.last t.ends t.desk t.is
 
     joined_in_order : IsInOrder t.desk.tells run.scene so (player_joined run.scene t.ends t.desk run.last).play
-    joined_in_order =
-        so_far table run.scene so (player_joined run.scene t.ends t.desk run.last) stands t.desk.tells
-        (subst (λ (tells : Bool). InOneOrder tells (happened_so run.scene so (player_joined run.scene t.ends t.desk run.last).play)) (sym t.is.joins.closes.tells)
-        (in_one_order lease run.scene table run.scene.period (most_layers run.scene.version) locks run.last t.ends t.desk t.is))
+    joined_in_order = record { order = ordered_so; none = none_up_to_join lease run.scene table run.scene.period (most_layers run.scene.version) locks run.last t.ends t.desk t.is frames by_counts stands.rights.ledger }
+      where
+        ordered_so : IsOrderedSoFar t.desk.tells (come_so (player_joined run.scene t.ends t.desk run.last).play) (happened_so run.scene so (player_joined run.scene t.ends t.desk run.last).play)
+        ordered_so = so_far table run.scene so (player_joined run.scene t.ends t.desk run.last) stands t.desk.tells
+            (subst (λ (tells : Bool). InOneOrder tells (happened_so run.scene so (player_joined run.scene t.ends t.desk run.last).play)) (sym t.is.joins.closes.tells)
+            (in_one_order lease run.scene table run.scene.period (most_layers run.scene.version) locks run.last t.ends t.desk t.is))
 
     pub has_shown : HasShown table run.scene (plan_of run.scene) run.timelines start run.now run.screens player
     has_shown =

@@ -38,7 +38,7 @@ use Rattle.sf_live_compositor.specs.sf_play.Actions.{is_end}
 use Rattle.sf_live_compositor.specs.sf_play_write.Vsyncs.{records_if, told_with}
 use Rattle.sf_live_compositor.specs.sf_play_write.Writing.{CutSome, Writes, WritesPart}
 use Rattle.sf_live_compositor.proofs.sf_play_write_lemmas.WritingLemmas.{cut_part, part_more, part_whole, writes_more}
-use Rattle.law_rounds.specs.Rounds.{IsInOrder}
+use Rattle.law_live_order.specs.law_rounds.Rounds.{IsInOrder}
 use Rattle.sf_live.specs.inner.Rounds.{HasShown, MayWriteAction, ShowsOn, action_written, vsyncs_alone}
 use Rattle.sf_live.proofs.VsyncReports.{told_is}
 

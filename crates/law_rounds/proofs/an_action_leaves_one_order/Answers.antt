@@ -1,5 +1,6 @@
-use Rattle.law_rounds.proofs.ActionInOrder.{action_in_order}
+use Rattle.std.proofs.Common.{ℕ, ap}
+use Rattle.law_rounds.proofs.InOrder.{keeps_order}
 use Rattle.law_rounds.proofs.an_action_leaves_one_order.Goals as goal
 
 pub returns : goal.returns
-returns g c = λ table scene so old new came_to tells stands takes on ordered. action_in_order _ table scene so old new came_to stands on tells ordered takes
+returns g c = keeps_order _ (record { plain = λ a b e. e; picture = λ a b e. e; number = λ a b e. ap (λ (p : ℕ × ℕ). p.1) e })

@@ -3,7 +3,7 @@
 use Rattle.std.specs.Prelude.{◌≡◌, ℕ, Bool, true, false, List, [], ◌∷◌, map, Option, None, Some, slice_get, slice_set}
 use Rattle.std.specs.List.{flat_map}
 use Rattle.atomic_table.specs.Seated.{TableId}
-use Rattle.law_rounds.specs.Rounds.{IsInOrder}
+use Rattle.law_live_order.specs.law_rounds.Rounds.{IsInOrder}
 use Rattle.sf_picture.specs.declared.picture.Picture.{Picture}
 use Rattle.sf_script_scene.specs.Scene.{SceneValue}
 use Rattle.sf_live_compositor.specs.sf_actor.Scripts.{picture_at}

@@ -1,4 +1,4 @@
-use Rattle.std.proofs.Common.{◌∙◌, ap, subst, sym}
+use Rattle.std.proofs.Common.{ℕ, ◌∙◌, ap, subst, sym}
 use Rattle.sf_script_scene.specs.Limits.{most_layers}
 use Rattle.sf_live_compositor.specs.sf_play.Players.{PlayerOf}
 use Rattle.sf_live_compositor.specs.sf_play.Standing.{IsStanding}
@@ -9,6 +9,7 @@ use Rattle.sf_live.proofs.resuming.go_on.Goals as goal
 pub returns-clause-shown : goal.returns-clause-shown
 returns-clause-shown g c = λ run locks start t goes.
     has_shown _ g.B.TableName.table run locks c.args.joined start c.args.period c.args.order c.args.handler c.args.vsyncs t goes
+    (record { plain = λ a b e. e; picture = λ a b e. e; number = λ a b e. ap (λ (p : ℕ × ℕ). p.1) e }) (λ eye l knows. knows)
     (c.buffers_among_threads_have_their_pictures.ensures run.scene run.scene.period (most_layers run.scene.version) locks run.last t.ends t.desk t.is) c.resume-player.result c.resume-player.ensures
     (c.a_run_in_threads_goes_on.ensures.in_run run.scene run.scene.period (most_layers run.scene.version) locks run.last t.ends t.desk t.is t.few)
     (c.what_threads_did_is_played.ensures.vsyncs run.scene run.scene.period (most_layers run.scene.version) locks run.last t.ends t.desk t.is)

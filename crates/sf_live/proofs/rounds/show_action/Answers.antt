@@ -1,7 +1,7 @@
-use Rattle.std.proofs.Common.{Bool, List, not, subst, sym}
+use Rattle.std.proofs.Common.{ℕ, Bool, List, ap, not, subst, sym}
 use Rattle.atomic_table.specs.Seated.{TableId}
-use Rattle.law_rounds.specs.Rounds.{IsInOrder}
-use Rattle.law_rounds.proofs.ActionInOrder.{action_in_order}
+use Rattle.law_live_order.specs.law_rounds.Rounds.{IsInOrder}
+use Rattle.law_live_order.proofs.law_rounds_lemmas.InOrder.{keeps_order}
 use Rattle.sf_picture.specs.declared.picture.Picture.{Picture}
 use Rattle.sf_script_scene.specs.Scene.{SceneValue}
 use Rattle.sf_live_compositor.specs.sf_actor.Plain.{home_of, view_of}
@@ -47,7 +47,8 @@ returns-in-Ok-write_action-clause-on g c = λ scene start has.
     let may = may_write g.B.TableName.table scene c.args.plan.now has.so c.in-Ok.action c.next.new.self has.planned goes in
     let now = c.in-Ok-write_action.ensures.ok scene may has.shown in
     let takes = c.in-Ok.ensures.acts has.so.actors (keeps_now g.B.TableName.table scene has.so c.args.player.now has.stands) in
-    let ordered = action_in_order _ g.B.TableName.table scene has.so c.args.player.now c.next.new.self c.in-Ok.action has.stands goes (home_in c.args.player.now.play).tells has.in_order takes in
+    let ordered = keeps_order _ (record { plain = λ a b e. e; picture = λ a b e. e; number = λ a b e. ap (λ (p : ℕ × ℕ). p.1) e }) g.B.TableName.table scene has.so c.args.player.now c.next.new.self c.in-Ok.action
+    (home_in c.args.player.now.play).tells has.stands takes goes has.in_order in
     let in_order = subst (λ (tells : Bool). IsInOrder tells scene goes.later c.next.new.self.play) (sym c.in-Ok.ensures.told) ordered in
     subst (λ (b : Bool). ShowsOn (not b) g.B.TableName.table scene c.args.plan.now c.args.timelines.now start (g.K.Sink.taken c.write_action.new.sink) c.write_action.new.screens c.next.new.self) (sym c.is_end-goes_on.ensures)
     (shows_on g.B.TableName.table scene c.args.plan.now c.args.timelines.now start (g.K.Sink.taken c.args.sink.now) (g.K.Sink.taken c.write_action.new.sink) c.args.screens.now c.write_action.new.screens
