@@ -226,7 +226,7 @@ def apply_to(folder, steps):
     """Changes a crate's files by the steps of an edit."""
     for file, old, new in steps:
         path = os.path.join(folder, file)
-        text = read(path).replace(old, new)
+        text = read(path).replace(old, new, 1)
         with open(path, "w", encoding="utf-8") as out:
             out.write(text)
 
