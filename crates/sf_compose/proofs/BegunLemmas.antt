@@ -1,22 +1,25 @@
 -- Areas that are begun with the topmost layer that hides them, and what the layers from there on make of them.
-use Rattle.std.proofs.Common.{◌≡◌, ℕ, zero, suc, ◌+◌, ◌-◌, ◌*◌, ◌<◌, ◌≤◌, Bool, true, false, ◌||◌, if◌then◌else◌, List, [], ◌∷◌, length, get_or, take, drop, refl, ap, ◌∙◌, sym, arith, ℤ, pos}
+use Rattle.std.proofs.Common.{◌≡◌, ℕ, zero, suc, ◌+◌, ◌-◌, ◌*◌, ◌<◌, ◌≤◌, Bool, true, false, ◌||◌, if◌then◌else◌, List, [], ◌∷◌, length, get_or, take, drop, refl, ap, ◌∙◌, sym, arith, ℤ, pos, Option, None, Some}
+use denote.Ref.{Bor}
 use Rattle.std.specs.List.{AllZip}
 use Rattle.std.proofs.lemmas.Bool.Decides.{nat_tests}
 use Rattle.sf_base.specs.Bytes.{pixel_in}
 use Rattle.sf_base.specs.Paint.{painted}
 use Rattle.sf_base.specs.declared.geometry.Rect.{Rect}
 use Rattle.sf_base.specs.declared.pixel.Rgba.{Rgba}
+use Rattle.sf_damage.proofs.VisibleLemmas.{AreVisibleAt-within}
 use Rattle.sf_damage.specs.Visible.{AreVisibleAt}
 use Rattle.sf_damage.specs.sf_picture.declared.picture.Picture.{Picture}
 use Rattle.sf_damage.specs.sf_view.Image.{opaque_black}
 use Rattle.sf_damage.specs.sf_view.declared.drawn.Drawn.{Drawn}
 use Rattle.sf_compose.specs.declared.area.Area.{Area}
+use Rattle.sf_compose.specs.Composed.{AreShownAt}
 use Rattle.sf_compose.specs.inner.Begun.{IsBegun, Spares}
 use Rattle.sf_compose.specs.Frames.{is_in_box, Repaints}
 use Rattle.sf_compose.specs.inner.Ground.{hides}
 use Rattle.sf_compose.specs.inner.Painting.{is_in_area, Paints}
 use Rattle.sf_compose.specs.Readings.{AreReadable, IsReadable, under_drawn, under_one}
-use Rattle.sf_compose.specs.inner.Seen.{AreSeenAt}
+use Rattle.sf_compose.specs.inner.Seen.{AreGivenAt, AreSeenAt}
 use Rattle.sf_compose.proofs.GroundLemmas.{hidden}
 use Rattle.sf_compose.proofs.LayerLemmas.{under_drawn-more}
 use Rattle.sf_compose.proofs.PaintLemmas.{painted-black, Paints-then}
@@ -131,6 +134,19 @@ pub AreSeenAt-visible : (some : ℤ → ℤ → Bool) (fewer : ℕ → ℕ → B
 AreSeenAt-visible some fewer [] shows within a = a
 AreSeenAt-visible some fewer (d ∷ ds) [] within a = a
 AreSeenAt-visible some fewer (d ∷ ds) (r ∷ rs) within a = (λ x y t. a.0 (pos x) (pos y) (within x y t), AreSeenAt-visible some fewer ds rs within a.1)
+
+-- the same where such regions are given
+pub AreGivenAt-within : (some fewer : ℕ → ℕ → Bool) (layers : List Drawn) (shows : Option (Bor (List (List Rect)))) → ((x y : ℕ) → fewer x y ≡ true → some x y ≡ true) → AreGivenAt some layers shows → AreGivenAt fewer layers shows
+AreGivenAt-within some fewer layers None within a = tt
+AreGivenAt-within some fewer layers (Some shows) within a = AreSeenAt-within some fewer layers shows.now within a
+
+pub AreGivenAt-shown : (some : ℤ → ℤ → Bool) (fewer : ℕ → ℕ → Bool) (layers : List Drawn) (shows : Option (Bor (List (List Rect)))) → ((x y : ℕ) → fewer x y ≡ true → some (pos x) (pos y) ≡ true) → AreShownAt some layers shows → AreGivenAt fewer layers shows
+AreGivenAt-shown some fewer layers None within a = tt
+AreGivenAt-shown some fewer layers (Some shows) within a = AreSeenAt-visible some fewer layers shows.now within a
+
+pub AreShownAt-within : (some fewer : ℤ → ℤ → Bool) (layers : List Drawn) (shows : Option (Bor (List (List Rect)))) → ((x y : ℤ) → fewer x y ≡ true → some x y ≡ true) → AreShownAt some layers shows → AreShownAt fewer layers shows
+AreShownAt-within some fewer layers None within a = tt
+AreShownAt-within some fewer layers (Some shows) within a = AreVisibleAt-within some fewer layers shows.now within a
 
 -- slices
 

@@ -87,8 +87,8 @@ next_row from w column y extent place edge within low is =
     omega (arith, is, row, more)
 
 -- a pixel of a row of a crop
-pub crop_pixel : (picture : Picture) (bytes : List ℕ) (rect : Rect) (across down : ℤ) (y left right column row k : ℕ) → ShowsPicture picture bytes → LiesWithin rect picture.width picture.height → left < right → is_within across rect.width (pos left) ≡ true → is_within across rect.width (pos (right - 1)) ≡ true → is_within down rect.height (pos y) ≡ true → column ≡ unsigned ((pos left +ℤ neg_ℤ across) +ℤ rect.x) → row ≡ unsigned ((pos y +ℤ neg_ℤ down) +ℤ rect.y) → k < right - left → pixel_in bytes ((row * picture.width + column) + k) ≡ pixel_at picture (unsigned ((pos (left + k) +ℤ neg_ℤ across) +ℤ rect.x)) (unsigned ((pos y +ℤ neg_ℤ down) +ℤ rect.y))
-crop_pixel picture bytes rect across down y left right column row k shows lies ordered first last within is_column is_row low_k =
+pub row_pixel : (picture : Picture) (bytes : List ℕ) (rect : Rect) (across down : ℤ) (y left right column row k : ℕ) → ShowsPicture picture bytes → LiesWithin rect picture.width picture.height → left < right → is_within across rect.width (pos left) ≡ true → is_within across rect.width (pos (right - 1)) ≡ true → is_within down rect.height (pos y) ≡ true → column ≡ unsigned ((pos left +ℤ neg_ℤ across) +ℤ rect.x) → row ≡ unsigned ((pos y +ℤ neg_ℤ down) +ℤ rect.y) → k < right - left → pixel_in bytes ((row * picture.width + column) + k) ≡ pixel_at picture (unsigned ((pos (left + k) +ℤ neg_ℤ across) +ℤ rect.x)) (unsigned ((pos y +ℤ neg_ℤ down) +ℤ rect.y))
+row_pixel picture bytes rect across down y left right column row k shows lies ordered first last within is_column is_row low_k =
     let narrow = columns_below left right rect.width picture.width column across rect.x ordered first last lies.across.low lies.across.high is_column in
     let low : row < picture.height = rw is_row (place_below y rect.height picture.height down rect.y within lies.down.low lies.down.high) in
     let moved = place_moved left (left + k) rect.width across rect.x (omega arith) first lies.across.low in

@@ -13,7 +13,7 @@ use Rattle.sf_base.specs.declared.geometry.Rect.{Rect}
 use Rattle.sf_damage.specs.sf_picture.Pixels.{ShowsPicture}
 use Rattle.sf_damage.specs.sf_picture.declared.picture.Picture.{Picture}
 use Rattle.sf_damage.specs.sf_view.Boxes.{box_of, is_sideways}
-use Rattle.sf_rows.specs.Pixels.{column_pixel, HasPixel, LiesBeside, picked, PicksColumns}
+use Rattle.sf_rows.specs.Pixels.{column_pixel, HasPixel, picked, PicksColumns}
 use Rattle.sf_compose.specs.inner.Orientations.{is_back_across, pixel_shown, point_shown, step_of}
 use Rattle.sf_compose.proofs.OrientationLemmas.{number_of, oriented_has, point_in, point_small, row_back, row_on, shown_pixel}
 

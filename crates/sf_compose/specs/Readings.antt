@@ -52,6 +52,18 @@ under_drawn contents x y under (drawn ∷ layers) [] = under
 under_drawn contents x y under (drawn ∷ layers) (source ∷ sources) =
     under_drawn contents x y (under_one contents x y under drawn source) layers sources
 
+-- what is painted of a drawn layer over a pixel at a point of the display
+abbrev pub over_layer : List Picture → Drawn → ℕ → ℕ → ℕ → Rgba → Rgba
+over_layer contents drawn source = λ x y under. under_one contents (pos x) (pos y) under drawn source
+
+-- and of the drawn layers of a list
+abbrev pub over_layers : List Picture → List Drawn → List ℕ → ℕ → ℕ → Rgba → Rgba
+over_layers contents layers sources = λ x y under. under_drawn contents (pos x) (pos y) under layers sources
+
+-- the same over black, whatever was there
+abbrev pub over_black : List Picture → List Drawn → List ℕ → ℕ → ℕ → Rgba → Rgba
+over_black contents layers sources = λ x y under. under_drawn contents (pos x) (pos y) opaque_black layers sources
+
 -- the image of a view at a point of the display, as it is read from the contents
 unfoldable pub read_image : List Picture → ViewOf → List ℕ → ℕ → ℕ → Rgba
 read_image contents view sources x y = under_drawn contents (pos x) (pos y) opaque_black view.drawn sources

@@ -1,11 +1,14 @@
 -- Where the layers of a view find the pictures of the buffers that they show.
-use Rattle.std.specs.Prelude.{◌≡◌, ℕ, List, Some}
+use Rattle.std.specs.Prelude.{◌≡◌, ℕ, List, Some, pos}
 use Rattle.std.specs.List.{AllZip, slice_get}
 use Rattle.sf_base.specs.Geometry.{LiesWithin}
+use Rattle.sf_compose.specs.Frames.{frame_bytes}
+use Rattle.sf_compose.specs.Readings.{read_image}
 use Rattle.sf_damage.specs.sf_layer.declared.shown.Shown.{Shown}
 use Rattle.sf_damage.specs.sf_picture.declared.picture.Picture.{Picture}
 use Rattle.sf_damage.specs.sf_view.declared.content.Content.{Content}
 use Rattle.sf_damage.specs.sf_view.declared.content.Content.TheVariants as content
+use Rattle.sf_damage.specs.sf_view.Stacks.{view_image}
 use Rattle.sf_damage.specs.sf_view.Views.{ViewOf}
 
 -- the content at this place is the picture of a shown buffer, and the part that is shown lies in it
@@ -21,3 +24,12 @@ HasSource picture contents (content.Buffer shown) source = IsSource picture cont
 -- each drawn layer of a view has its source, at its own place in the list of sources
 pub record HasSources (picture : ℕ → Picture) (view : ViewOf) (contents : List Picture) (sources : List ℕ) : Type 0 where
   pub all : AllZip (λ drawn source. HasSource picture contents drawn.content source) view.drawn sources
+
+-- what is read of the contents for a view is its image
+abbrev pub ReadsImage : (ℕ → Picture) → ViewOf → List Picture → List ℕ → Type 0
+ReadsImage picture view contents sources = (x y : ℕ) → read_image contents view sources x y ≡ view_image picture view (pos x) (pos y)
+
+-- these are the bytes of the view's image, for each assignment of pictures that gives the contents to its layers
+abbrev pub IsFrameOf : ViewOf → List Picture → List ℕ → List ℕ → Type 0
+IsFrameOf view contents sources bytes = (picture : ℕ → Picture) → HasSources picture view contents sources →
+    bytes ≡ frame_bytes (λ x y. view_image picture view (pos x) (pos y)) view.width view.height

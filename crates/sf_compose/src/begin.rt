@@ -8,6 +8,7 @@ ghost use Rattle.sf_compose.specs.inner.Seen.{ArePaintable};
 
 use crate::area::Area;
 use crate::band::Band;
+use crate::composition::SourcedLayer;
 use crate::ground::{OPAQUE_BLACK, has_area, hides};
 use crate::layer::{copy_layer, paint_area};
 use crate::pixels::Pixels;
@@ -16,9 +17,9 @@ use sf_damage::sf_view::Drawn;
 /// Begins an area under drawn layers, and returns from which of them on it is still to be painted:
 /// from the topmost one that hides all of it, or behind that one where its pixels were copied.
 /// Where none hides it, the area is black, and all of them are to be painted.
-pub fn begin<C: Pixels>(
-    layers: &[Drawn],
-    contents: &[C],
+pub fn begin<'a, C: Pixels>(
+    layers: &'a [Drawn],
+    contents: &'a [C],
     sources: &[u32],
     band: Band,
     area: Area,
@@ -42,7 +43,12 @@ pub fn begin<C: Pixels>(
         if hides(&layers[at], area) {
             return at;
         }
-        if copy_layer(&layers[at], contents, sources[at], frame, band, area) {
+        let layer = SourcedLayer {
+            drawn: &layers[at],
+            contents,
+            source: sources[at],
+        };
+        if copy_layer(&layer, frame, band, area) {
             return above;
         }
     }

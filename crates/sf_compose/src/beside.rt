@@ -4,32 +4,37 @@ ghost use Rattle.std.specs.Prelude.{◌≡◌, ◌-◌, ◌*◌, ◌<◌, ◌≤
 ghost use denote.Param.Send.{IsSync};
 ghost use Rattle.sf_base.specs.declared.pixel.Rgba.{Rgba as RgbaIn};
 ghost use Rattle.sf_compose.specs.declared.band.Band.{Band as BandIn};
-ghost use Rattle.sf_compose.specs.inner.Bands.{AcceptsBands, HasRows, IsCut, RepaintsBands};
-ghost use Rattle.sf_compose.specs.Frames.{Repaints};
+ghost use Rattle.sf_compose.specs.inner.Bands.{AcceptsBands, HasRows, IsCut, RepaintsBand, RepaintsBands};
 
 use crate::band::Band;
 use crate::share::Share;
 use std::thread;
 use std::thread::Threads;
 
-/// The first rows of a band, at most so many, and those below.
-fn cut_off(band: Band, rows: u32) -> (Band, Band)
+// The upper rows of a band, and those below them.
+#[derive(Clone, Copy)]
+struct Cut {
+    first: Band,
+    below: Band,
+}
+
+/// Cuts the first rows off a band, at most so many.
+fn cut_off(band: Band, rows: u32) -> Cut
     requires some { 1 ≤ rows }
     requires rows { band.top < band.bottom }
-    ensures { IsCut band result.0 result.1 }
+    ensures { IsCut band result.first result.below }
 {
     let middle = band.top + rows.min(band.bottom - band.top);
-    let first = Band {
-        bottom: middle,
-        ..band
-    };
-    (
-        first,
-        Band {
+    Cut {
+        first: Band {
+            bottom: middle,
+            ..band
+        },
+        below: Band {
             top: middle,
             ..band
         },
-    )
+    }
 }
 
 /// How many bytes a band has.
@@ -53,10 +58,10 @@ pub fn compose_bands<R: Threads + Sync, F: Fn(Band, &mut [u8]) + Sync>(
     requires room { HasRows band bytes.old }
     requires accepts { AcceptsBands F.Fn f.now }
     ensures { (test : ℕ → ℕ → Bool) (image : ℕ → ℕ → RgbaIn) → RepaintsBands F.Fn f.now test image
-        → Repaints band.width band.top band.bottom test image bytes.old bytes.new }
+        → RepaintsBand band test image bytes.old bytes.new }
 {
     if share.is_last() {
-        compose_here(f, band, bytes);
+        f(band, bytes);
     } else {
         start_each(rt, f, share, band, bytes);
     }
@@ -76,14 +81,14 @@ fn start_each<R: Threads + Sync, F: Fn(Band, &mut [u8]) + Sync>(
     requires room { HasRows band bytes.old }
     requires accepts { AcceptsBands F.Fn f.now }
     ensures { (test : ℕ → ℕ → Bool) (image : ℕ → ℕ → RgbaIn) → RepaintsBands F.Fn f.now test image
-        → Repaints band.width band.top band.bottom test image bytes.old bytes.new }
+        → RepaintsBand band test image bytes.old bytes.new }
 {
     if band.top == band.bottom {
         return;
     }
-    let (first, below) = cut_off(band, share.first_rows(band));
-    let (now, later) = bytes.split_at_mut(size_of(first));
-    start_beside(rt, f, share.rest(), first, now, below, later);
+    let cut = cut_off(band, share.first_rows(band));
+    let (now, later) = bytes.split_at_mut(size_of(cut.first));
+    start_beside(rt, f, share.rest(), cut, now, later);
 }
 
 /// Composes a band in this thread.
@@ -91,7 +96,7 @@ fn compose_here<F: Fn(Band, &mut [u8])>(f: &F, band: Band, bytes: &mut [u8])
     requires room { HasRows band bytes.old }
     requires accepts { AcceptsBands F.Fn f.now }
     ensures { (test : ℕ → ℕ → Bool) (image : ℕ → ℕ → RgbaIn) → RepaintsBands F.Fn f.now test image
-        → Repaints band.width band.top band.bottom test image bytes.old bytes.new }
+        → RepaintsBand band test image bytes.old bytes.new }
 {
     f(band, bytes);
 }
@@ -102,29 +107,29 @@ fn start_beside<R: Threads + Sync, F: Fn(Band, &mut [u8]) + Sync>(
     rt: &R,
     f: &F,
     share: Share,
-    first: Band,
+    cut: Cut,
     now: &mut [u8],
-    below: Band,
     later: &mut [u8],
 )
-    requires ordered { below.top ≤ below.bottom }
-    requires first { HasRows first now.old }
-    requires below { HasRows below later.old }
+    requires ordered { cut.below.top ≤ cut.below.bottom }
+    requires first { HasRows cut.first now.old }
+    requires below { HasRows cut.below later.old }
     requires accepts { AcceptsBands F.Fn f.now }
     ensures first { (test : ℕ → ℕ → Bool) (image : ℕ → ℕ → RgbaIn) → RepaintsBands F.Fn f.now test image
-        → Repaints first.width first.top first.bottom test image now.old now.new }
+        → RepaintsBand cut.first test image now.old now.new }
     ensures below { (test : ℕ → ℕ → Bool) (image : ℕ → ℕ → RgbaIn) → RepaintsBands F.Fn f.now test image
-        → Repaints below.width below.top below.bottom test image later.old later.new }
+        → RepaintsBand cut.below test image later.old later.new }
 {
+    let Cut { first, below } = cut;
     let mut one = ||
         requires { IsSync F.row × HasRows first now.now × AcceptsBands F.Fn f.now }
         ensures { (test : ℕ → ℕ → Bool) (image : ℕ → ℕ → RgbaIn) → RepaintsBands F.Fn f.entry.now test image
-            → Repaints first.width first.top first.bottom test image now.entry.now now.exit.now }
+            → RepaintsBand first test image now.entry.now now.exit.now }
     { compose_here(f, first, now) };
     let mut others = ||
         requires { IsSync R.row × IsSync F.row × (below.top ≤ below.bottom) × HasRows below later.now × AcceptsBands F.Fn f.now }
         ensures { (test : ℕ → ℕ → Bool) (image : ℕ → ℕ → RgbaIn) → RepaintsBands F.Fn f.entry.now test image
-            → Repaints below.width below.top below.bottom test image later.entry.now later.exit.now }
+            → RepaintsBand below test image later.entry.now later.exit.now }
     { start_each(rt, f, share, below, later) };
     thread::join_mut(rt, &mut one, &mut others);
 }

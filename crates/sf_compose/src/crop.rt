@@ -1,10 +1,9 @@
 //! The pixels of a picture that a crop shows at the points of a row.
-ghost use Rattle.std.specs.Prelude.{◌≡◌, ◌+◌, ◌-◌, ◌*◌, ◌<◌, ◌≤◌, ℕ, length, pos, true, ◌≤ℤ◌, ◌+ℤ◌, neg_ℤ};
+ghost use Rattle.std.specs.Prelude.{◌≡◌, ◌+◌, ◌-◌, ◌*◌, ◌<◌, ◌≤◌, ℕ, length, pos, true, ◌≤ℤ◌};
 ghost use Rattle.std.specs.List.{between};
 ghost use Rattle.sf_base.specs.Bytes.{pixel_in};
 ghost use Rattle.sf_base.specs.Geometry.{is_within, LiesWithin};
-ghost use Rattle.sf_damage.specs.sf_picture.Pixels.{pixel_at};
-ghost use Rattle.sf_damage.specs.sf_view.Contents.{unsigned};
+ghost use Rattle.sf_compose.specs.inner.Crops.{coordinate, crop_number, crop_pixel};
 
 use sf_base::Rect;
 use sf_damage::sf_picture::Painted;
@@ -22,7 +21,7 @@ pub struct Crop {
 fn coordinate(at: u32, place: i32, edge: i32) -> usize
     requires placed { place ≤ℤ pos at }
     requires cropped { pos 0 ≤ℤ edge }
-    ensures { result ≡ unsigned ((pos at +ℤ neg_ℤ place) +ℤ edge) }
+    ensures { result ≡ coordinate at place edge }
 {
     (i64::from(at) - i64::from(place) + i64::from(edge)) as usize
 }
@@ -35,8 +34,7 @@ pub fn crop_start(picture: &Painted, crop: Crop, y: u32, left: u32, right: u32) 
     requires first { is_within crop.place.0 crop.rect.width (pos left) ≡ true }
     requires last { is_within crop.place.0 crop.rect.width (pos (right - 1)) ≡ true }
     requires down { is_within crop.place.1 crop.rect.height (pos y) ≡ true }
-    ensures place { result ≡ unsigned ((pos y +ℤ neg_ℤ crop.place.1) +ℤ crop.rect.y) * picture.now.width
-        + unsigned ((pos left +ℤ neg_ℤ crop.place.0) +ℤ crop.rect.x) }
+    ensures number { result ≡ crop_number picture.now crop left y }
     ensures room { result + (right - left) ≤ picture.now.width * picture.now.height }
 {
     let column = coordinate(left, crop.place.0, crop.rect.x);
@@ -60,9 +58,7 @@ pub fn crop_row(picture: &Painted, crop: Crop, y: u32, left: u32, right: u32) ->
     requires last { is_within crop.place.0 crop.rect.width (pos (right - 1)) ≡ true }
     requires down { is_within crop.place.1 crop.rect.height (pos y) ≡ true }
     ensures size { length result.now ≡ 4 * (right - left) }
-    ensures pixels { (k : ℕ) → k < right - left → pixel_in result.now k ≡ pixel_at picture.now
-        (unsigned ((pos (left + k) +ℤ neg_ℤ crop.place.0) +ℤ crop.rect.x))
-        (unsigned ((pos y +ℤ neg_ℤ crop.place.1) +ℤ crop.rect.y)) }
+    ensures pixels { (k : ℕ) → k < right - left → pixel_in result.now k ≡ crop_pixel picture.now crop (left + k) y }
 {
     let from = crop_start(picture, crop, y, left, right);
     pixels_from(picture.bytes(), from, (right - left) as usize)
@@ -80,9 +76,7 @@ pub fn crop_rows(picture: &Painted, crop: Crop, width: u32, top: u32, bottom: u3
     requires upper { is_within crop.place.1 crop.rect.height (pos top) ≡ true }
     requires lower { is_within crop.place.1 crop.rect.height (pos (bottom - 1)) ≡ true }
     ensures size { length result.now ≡ 4 * ((bottom - top) * width) }
-    ensures pixels { (x y : ℕ) → x < width → top ≤ y → y < bottom → pixel_in result.now ((y - top) * width + x) ≡ pixel_at picture.now
-        (unsigned ((pos x +ℤ neg_ℤ crop.place.0) +ℤ crop.rect.x))
-        (unsigned ((pos y +ℤ neg_ℤ crop.place.1) +ℤ crop.rect.y)) }
+    ensures pixels { (x y : ℕ) → x < width → top ≤ y → y < bottom → pixel_in result.now ((y - top) * width + x) ≡ crop_pixel picture.now crop x y }
 {
     let from = crop_start(picture, crop, top, 0, width);
     let last = crop_start(picture, crop, bottom - 1, 0, width);

@@ -1,12 +1,11 @@
 //! Laws about composed frames, called for their clauses alone: in whatever parts a view is
 //! composed, its frame is one.
-ghost use Rattle.std.specs.Prelude.{◌≡◌, ℕ, List, pos};
+ghost use Rattle.std.specs.Prelude.{ℕ, List};
 ghost use Rattle.sf_damage.specs.sf_picture.declared.picture.Picture.{Picture};
-ghost use Rattle.sf_damage.specs.sf_view.Stacks.{view_image};
 ghost use Rattle.sf_damage.specs.sf_view.Views.{ViewOf};
 ghost use Rattle.sf_compose.specs.Again.{ComposingAgainIsWhole, ComposingHasOneFrame};
-ghost use Rattle.sf_compose.specs.Readings.{AreReadable, read_image};
-ghost use Rattle.sf_compose.specs.Sources.{HasSources};
+ghost use Rattle.sf_compose.specs.Readings.{AreReadable};
+ghost use Rattle.sf_compose.specs.Sources.{HasSources, ReadsImage};
 
 /// Where the contents hold the pictures that a view's layers show, whatever pictures the numbers
 /// stand for, they can be read, and what is read is the painter's image of the view.
@@ -14,8 +13,7 @@ pub fn what_is_read_is_the_image()
     ensures readable { (picture : ℕ → Picture) (view : ViewOf) (contents : List Picture) (sources : List ℕ) →
         HasSources picture view contents sources → AreReadable contents view.drawn sources }
     ensures image { (picture : ℕ → Picture) (view : ViewOf) (contents : List Picture) (sources : List ℕ) →
-        HasSources picture view contents sources →
-        (x y : ℕ) → read_image contents view sources x y ≡ view_image picture view (pos x) (pos y) }
+        HasSources picture view contents sources → ReadsImage picture view contents sources }
 {}
 
 /// Where the points at which two views differ were composed anew over the frame of the old one, and

@@ -1,28 +1,28 @@
 //! Paints one drawn layer over an area of a frame: a colour, a crop of a buffer, or an oriented crop.
-ghost use Rattle.std.specs.Prelude.{◌≡◌, ◌+◌, ◌-◌, ◌*◌, ◌<◌, ◌≤◌, ℕ, length, map, pos, true, IsTrue, ◌&&◌, ◌+ℤ◌, neg_ℤ};
-ghost use Rattle.sf_base.specs.Paint.{painted};
+ghost use Rattle.std.specs.Prelude.{◌≡◌, ◌+◌, ◌-◌, ◌*◌, ◌<◌, ◌≤◌, ℕ, length, map, pos, true, IsTrue, ◌&&◌};
 ghost use Rattle.sf_base.specs.Bytes.{pixel_in};
-ghost use Rattle.sf_base.specs.declared.pixel.Rgba.{Rgba as RgbaValue};
+ghost use Rattle.sf_base.specs.Geometry.{covers, is_within, LiesWithin};
+ghost use Rattle.sf_base.specs.Paint.{painted};
+ghost use Rattle.sf_compose.specs.Readings.{AreReadable, IsReadable, over_layer, over_layers};
 ghost use Rattle.sf_compose.specs.inner.Bands.{HasRows, IsInBand};
 ghost use Rattle.sf_compose.specs.inner.Begun.{Spares};
-ghost use Rattle.sf_compose.specs.inner.Painting.{is_in_area, Paints, PaintsSpan};
-ghost use Rattle.sf_compose.specs.Readings.{AreReadable, IsReadable, under_drawn, under_one};
+ghost use Rattle.sf_compose.specs.inner.Crops.{crop_pixel, over_crop};
+ghost use Rattle.sf_compose.specs.inner.Orientations.{oriented_of, oriented_pixel, over_oriented};
+ghost use Rattle.sf_compose.specs.inner.Painting.{is_in_area, PaintsAnew, PaintsArea, PaintsSpan, PaintsSpanAnew};
 ghost use Rattle.sf_compose.specs.inner.Seen.{ArePaintable, IsPaintable};
-ghost use Rattle.sf_damage.specs.sf_picture.Pixels.{pixel_at};
-ghost use Rattle.sf_base.specs.Geometry.{covers, is_within, LiesWithin};
-ghost use Rattle.sf_compose.specs.inner.Orientations.{pixel_shown};
 ghost use Rattle.sf_damage.specs.sf_view.Boxes.{box_of};
-ghost use Rattle.sf_damage.specs.sf_view.Contents.{source_of, unsigned};
+ghost use Rattle.sf_damage.specs.sf_view.Contents.{source_of};
 
 use crate::area::{Area, cut};
 use crate::band::{Band, row_start};
+use crate::composition::SourcedLayer;
 use crate::contents::read;
 use crate::crop::{Crop, crop_row};
 use crate::ground::may_hide;
 use crate::moving::move_crop;
 use crate::oriented::{Oriented, copy_oriented, paint_oriented};
 use crate::pixels::Pixels;
-use crate::spans::{copy_pixels, paint_colour, paint_pixels};
+use crate::spans::{RowSpan, copy_pixels, paint_colour, paint_pixels};
 use sf_base::Rgba;
 use sf_damage::sf_layer::Shown;
 use sf_damage::sf_picture::Painted;
@@ -32,7 +32,7 @@ use sf_damage::sf_view::{Content, Drawn};
 pub fn paint_area(frame: &mut [u8], band: Band, area: Area, colour: Rgba, alpha: u8)
     requires within { IsInBand band area }
     requires room { HasRows band frame.old }
-    ensures { Paints band.width band.top (is_in_area area) (λ x y under. painted under colour alpha) frame.old frame.new }
+    ensures { PaintsArea band area (λ x y under. painted under colour alpha) frame.old frame.new }
 {
     if area.left >= area.right || area.top >= area.bottom {
         return;
@@ -50,32 +50,21 @@ pub fn paint_area(frame: &mut [u8], band: Band, area: Area, colour: Rgba, alpha:
 }
 
 /// Paints the points of a row from one on and before another, where the row starts at a pixel of the frame.
-fn paint_crop_row(
-    picture: &Painted,
-    crop: Crop,
-    frame: &mut [u8],
-    start: usize,
-    y: u32,
-    left: u32,
-    right: u32,
-)
+fn paint_crop_row(picture: &Painted, crop: Crop, frame: &mut [u8], row: RowSpan)
     requires crop { LiesWithin crop.rect picture.now.width picture.now.height }
-    requires ordered { left < right }
-    requires first { is_within crop.place.0 crop.rect.width (pos left) ≡ true }
-    requires last { is_within crop.place.0 crop.rect.width (pos (right - 1)) ≡ true }
-    requires down { is_within crop.place.1 crop.rect.height (pos y) ≡ true }
-    requires room { 4 * (start + right) ≤ length frame.old }
-    ensures { PaintsSpan frame.old frame.new (start + left) (start + right) (λ i under.
-        painted under (source_of crop.opaque (pixel_at picture.now
-        (unsigned ((pos (i - start) +ℤ neg_ℤ crop.place.0) +ℤ crop.rect.x))
-        (unsigned ((pos y +ℤ neg_ℤ crop.place.1) +ℤ crop.rect.y)))) crop.alpha) }
+    requires ordered { row.left < row.right }
+    requires first { is_within crop.place.0 crop.rect.width (pos row.left) ≡ true }
+    requires last { is_within crop.place.0 crop.rect.width (pos (row.right - 1)) ≡ true }
+    requires down { is_within crop.place.1 crop.rect.height (pos row.y) ≡ true }
+    requires room { 4 * (row.start + row.right) ≤ length frame.old }
+    ensures { PaintsSpan frame.old frame.new (row.start + row.left) (row.start + row.right) (λ i. over_crop picture.now crop (i - row.start) row.y) }
 {
-    let row = crop_row(picture, crop, y, left, right);
+    let pixels = crop_row(picture, crop, row.y, row.left, row.right);
     paint_pixels(
         frame,
-        start + left as usize,
-        start + right as usize,
-        row,
+        row.start + row.left as usize,
+        row.start + row.right as usize,
+        pixels,
         crop.opaque,
         crop.alpha,
     );
@@ -83,29 +72,20 @@ fn paint_crop_row(
 
 /// Copies the points of such a row, and returns whether all of them hide what was there. If not,
 /// some of them may be copied.
-fn copy_crop_row(
-    picture: &Painted,
-    crop: Crop,
-    frame: &mut [u8],
-    start: usize,
-    y: u32,
-    left: u32,
-    right: u32,
-) -> bool
+fn copy_crop_row(picture: &Painted, crop: Crop, frame: &mut [u8], row: RowSpan) -> bool
     requires crop { LiesWithin crop.rect picture.now.width picture.now.height }
-    requires ordered { left < right }
-    requires first { is_within crop.place.0 crop.rect.width (pos left) ≡ true }
-    requires last { is_within crop.place.0 crop.rect.width (pos (right - 1)) ≡ true }
-    requires down { is_within crop.place.1 crop.rect.height (pos y) ≡ true }
-    requires room { 4 * (start + right) ≤ length frame.old }
-    ensures touched { PaintsSpan frame.old frame.new (start + left) (start + right) (λ i under. pixel_in frame.new i) }
-    ensures copied { IsTrue result → (below : ℕ → RgbaValue) → PaintsSpan frame.old frame.new (start + left) (start + right) (λ i under.
-        painted (below i) (pixel_at picture.now
-        (unsigned ((pos (i - start) +ℤ neg_ℤ crop.place.0) +ℤ crop.rect.x))
-        (unsigned ((pos y +ℤ neg_ℤ crop.place.1) +ℤ crop.rect.y))) 255) }
+    requires ordered { row.left < row.right }
+    requires first { is_within crop.place.0 crop.rect.width (pos row.left) ≡ true }
+    requires last { is_within crop.place.0 crop.rect.width (pos (row.right - 1)) ≡ true }
+    requires down { is_within crop.place.1 crop.rect.height (pos row.y) ≡ true }
+    requires room { 4 * (row.start + row.right) ≤ length frame.old }
+    ensures touched { PaintsSpan frame.old frame.new (row.start + row.left) (row.start + row.right) (λ i under. pixel_in frame.new i) }
+    ensures copied { IsTrue result → PaintsSpanAnew frame.old frame.new (row.start + row.left) (row.start + row.right)
+        (λ i under. painted under (crop_pixel picture.now crop (i - row.start) row.y) 255) }
 {
-    let row = crop_row(picture, crop, y, left, right);
-    copy_pixels(frame, start + left as usize, start + right as usize, row)
+    let pixels = crop_row(picture, crop, row.y, row.left, row.right);
+    let start = row.start + row.left as usize;
+    copy_pixels(frame, start, row.start + row.right as usize, pixels)
 }
 
 /// Paints a crop over an area that it covers.
@@ -115,10 +95,7 @@ fn paint_crop(picture: &Painted, crop: Crop, frame: &mut [u8], band: Band, area:
         → (is_within crop.place.0 crop.rect.width (pos x) && is_within crop.place.1 crop.rect.height (pos y)) ≡ true }
     requires within { IsInBand band area }
     requires room { HasRows band frame.old }
-    ensures { Paints band.width band.top (is_in_area area) (λ x y under.
-        painted under (source_of crop.opaque (pixel_at picture.now
-        (unsigned ((pos x +ℤ neg_ℤ crop.place.0) +ℤ crop.rect.x))
-        (unsigned ((pos y +ℤ neg_ℤ crop.place.1) +ℤ crop.rect.y)))) crop.alpha) frame.old frame.new }
+    ensures { PaintsArea band area (over_crop picture.now crop) frame.old frame.new }
 {
     if area.left >= area.right || area.top >= area.bottom {
         return;
@@ -128,8 +105,14 @@ fn paint_crop(picture: &Painted, crop: Crop, frame: &mut [u8], band: Band, area:
         return;
     }
     for y in area.top..area.bottom {
-        let row = row_start(band, y);
-        paint_crop_row(picture, crop, frame, row, y, area.left, area.right);
+        let start = row_start(band, y);
+        let row = RowSpan {
+            start,
+            y,
+            left: area.left,
+            right: area.right,
+        };
+        paint_crop_row(picture, crop, frame, row);
     }
 }
 
@@ -142,10 +125,7 @@ fn copy_crop(picture: &Painted, crop: Crop, frame: &mut [u8], band: Band, area: 
     requires within { IsInBand band area }
     requires room { HasRows band frame.old }
     ensures spared { Spares band.width band.top (is_in_area area) frame.old frame.new }
-    ensures copied { IsTrue result → (below : ℕ → ℕ → RgbaValue) → Paints band.width band.top (is_in_area area) (λ x y under.
-        painted (below x y) (pixel_at picture.now
-        (unsigned ((pos x +ℤ neg_ℤ crop.place.0) +ℤ crop.rect.x))
-        (unsigned ((pos y +ℤ neg_ℤ crop.place.1) +ℤ crop.rect.y))) 255) frame.old frame.new }
+    ensures copied { IsTrue result → PaintsAnew band area (λ x y under. painted under (crop_pixel picture.now crop x y) 255) frame.old frame.new }
 {
     if area.left >= area.right || area.top >= area.bottom {
         return false;
@@ -155,8 +135,14 @@ fn copy_crop(picture: &Painted, crop: Crop, frame: &mut [u8], band: Band, area: 
         return true;
     }
     for y in area.top..area.bottom {
-        let row = row_start(band, y);
-        if !copy_crop_row(picture, crop, frame, row, y, area.left, area.right) {
+        let start = row_start(band, y);
+        let row = RowSpan {
+            start,
+            y,
+            left: area.left,
+            right: area.right,
+        };
+        if !copy_crop_row(picture, crop, frame, row) {
             return false;
         }
     }
@@ -188,8 +174,7 @@ fn paint_buffer(
     requires inside { (x y : ℕ) → is_in_area area x y ≡ true → covers (box_of shown.crop drawn.now.orient drawn.now.place) (pos x) (pos y) ≡ true }
     requires within { IsInBand band area }
     requires room { HasRows band frame.old }
-    ensures { Paints band.width band.top (is_in_area area) (λ x y under.
-        painted under (source_of drawn.now.opaque (pixel_shown picture.now shown.crop drawn.now.orient drawn.now.place (pos x) (pos y))) drawn.now.alpha) frame.old frame.new }
+    ensures { PaintsArea band area (over_oriented picture.now (oriented_of shown drawn.now)) frame.old frame.new }
 {
     if drawn.orient == 0 {
         let crop = Crop {
@@ -212,21 +197,14 @@ fn paint_buffer(
 }
 
 /// Paints a drawn layer over the points of an area that are in its clip.
-pub fn paint_layer<C: Pixels>(
-    drawn: &Drawn,
-    contents: &[C],
-    source: u32,
-    frame: &mut [u8],
-    band: Band,
-    area: Area,
-)
-    requires readable { IsReadable (map C.picture contents.now) drawn.now.content source }
-    requires paintable { IsPaintable drawn.now }
+pub fn paint_layer<C: Pixels>(layer: &SourcedLayer<C>, frame: &mut [u8], band: Band, area: Area)
+    requires readable { IsReadable (map C.picture layer.now.contents.now) layer.now.drawn.now.content layer.now.source }
+    requires paintable { IsPaintable layer.now.drawn.now }
     requires within { IsInBand band area }
     requires room { HasRows band frame.old }
-    ensures { Paints band.width band.top (is_in_area area) (λ x y under.
-        under_one (map C.picture contents.now) (pos x) (pos y) under drawn.now source) frame.old frame.new }
+    ensures { PaintsArea band area (over_layer (map C.picture layer.now.contents.now) layer.now.drawn.now layer.now.source) frame.old frame.new }
 {
+    let drawn = layer.drawn;
     let area = cut(area, &drawn.clip);
     match drawn.content {
         Content::Colour(colour) => {
@@ -234,7 +212,8 @@ pub fn paint_layer<C: Pixels>(
             paint_area(frame, band, area, colour, drawn.alpha);
         }
         Content::Buffer(shown) => {
-            paint_buffer(read(contents, source), shown, drawn, frame, band, area);
+            let picture = read(layer.contents, layer.source);
+            paint_buffer(picture, shown, drawn, frame, band, area);
         }
     }
 }
@@ -255,8 +234,7 @@ fn copy_buffer(
     requires within { IsInBand band area }
     requires room { HasRows band frame.old }
     ensures spared { Spares band.width band.top (is_in_area area) frame.old frame.new }
-    ensures copied { IsTrue result → (below : ℕ → ℕ → RgbaValue) → Paints band.width band.top (is_in_area area) (λ x y under.
-        painted (below x y) (pixel_shown picture.now shown.crop drawn.now.orient drawn.now.place (pos x) (pos y)) 255) frame.old frame.new }
+    ensures copied { IsTrue result → PaintsAnew band area (λ x y under. painted under (oriented_pixel picture.now (oriented_of shown drawn.now) x y) 255) frame.old frame.new }
 {
     if drawn.orient == 0 {
         let crop = Crop {
@@ -281,36 +259,35 @@ fn copy_buffer(
 /// Copies what a drawn layer shows over an area, and returns whether it hides what was there at
 /// each point of it. If not, some points of the area may be copied.
 pub fn copy_layer<C: Pixels>(
-    drawn: &Drawn,
-    contents: &[C],
-    source: u32,
+    layer: &SourcedLayer<C>,
     frame: &mut [u8],
     band: Band,
     area: Area,
 ) -> bool
-    requires readable { IsReadable (map C.picture contents.now) drawn.now.content source }
-    requires paintable { IsPaintable drawn.now }
+    requires readable { IsReadable (map C.picture layer.now.contents.now) layer.now.drawn.now.content layer.now.source }
+    requires paintable { IsPaintable layer.now.drawn.now }
     requires within { IsInBand band area }
     requires room { HasRows band frame.old }
     ensures spared { Spares band.width band.top (is_in_area area) frame.old frame.new }
-    ensures copied { IsTrue result → (below : ℕ → ℕ → RgbaValue) → Paints band.width band.top (is_in_area area) (λ x y under.
-        under_one (map C.picture contents.now) (pos x) (pos y) (below x y) drawn.now source) frame.old frame.new }
+    ensures copied { IsTrue result → PaintsAnew band area (over_layer (map C.picture layer.now.contents.now) layer.now.drawn.now layer.now.source) frame.old frame.new }
 {
+    let drawn = layer.drawn;
     if !may_hide(drawn, area) {
         return false;
     }
     match drawn.content {
         Content::Colour(_) => false,
         Content::Buffer(shown) => {
-            copy_buffer(read(contents, source), shown, drawn, frame, band, area)
+            let picture = read(layer.contents, layer.source);
+            copy_buffer(picture, shown, drawn, frame, band, area)
         }
     }
 }
 
 /// Paints drawn layers over an area, from the back.
-pub fn paint_layers<C: Pixels>(
-    layers: &[Drawn],
-    contents: &[C],
+pub fn paint_layers<'a, C: Pixels>(
+    layers: &'a [Drawn],
+    contents: &'a [C],
     sources: &[u32],
     band: Band,
     area: Area,
@@ -320,10 +297,14 @@ pub fn paint_layers<C: Pixels>(
     requires paintable { ArePaintable layers.now }
     requires within { IsInBand band area }
     requires room { HasRows band frame.old }
-    ensures { Paints band.width band.top (is_in_area area) (λ x y under.
-        under_drawn (map C.picture contents.now) (pos x) (pos y) under layers.now sources.now) frame.old frame.new }
+    ensures { PaintsArea band area (over_layers (map C.picture contents.now) layers.now sources.now) frame.old frame.new }
 {
     for (drawn, source) in layers.iter().zip(sources) {
-        paint_layer(drawn, contents, *source, frame, band, area);
+        let layer = SourcedLayer {
+            drawn,
+            contents,
+            source: *source,
+        };
+        paint_layer(&layer, frame, band, area);
     }
 }

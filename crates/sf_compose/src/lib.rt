@@ -11,6 +11,7 @@ mod area;
 mod band;
 mod begin;
 mod beside;
+mod composition;
 mod contents;
 mod crop;
 mod ground;
@@ -31,13 +32,13 @@ mod spans;
 mod steps;
 mod whole;
 
+pub use composition::Composition;
 pub use laws::{
     composing_has_one_frame, composing_what_differs_gives_the_frame, what_is_read_is_the_image,
 };
-pub use one::compose_one;
-pub use parallel::{compose, compose_seen_by};
+pub use one::{compose_one, compose_seen};
+pub use parallel::{compose, compose_by};
 pub use pixels::Pixels;
-pub use seen::compose_seen;
 pub use sf_damage::sf_layer::Shown;
 pub use sf_damage::sf_picture::Painted;
 pub use sf_damage::sf_region::Region;

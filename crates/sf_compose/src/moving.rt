@@ -1,13 +1,11 @@
 //! Copies crops of pictures that hide what lies below, many rows at once where it can.
-ghost use Rattle.std.specs.Prelude.{◌≡◌, ◌<◌, ℕ, Bool, pos, true, ◌+ℤ◌, neg_ℤ, ◌&&◌};
-ghost use Rattle.sf_base.specs.Paint.{painted};
-ghost use Rattle.sf_base.specs.declared.pixel.Rgba.{Rgba as RgbaValue};
-ghost use Rattle.sf_compose.specs.inner.Bands.{HasRows, IsInBand};
-ghost use Rattle.sf_compose.specs.inner.Painting.{is_in_area, Paints};
-ghost use Rattle.sf_damage.specs.sf_picture.Pixels.{pixel_at};
-ghost use Rattle.sf_damage.specs.sf_picture.Solid.{IsSolid};
+ghost use Rattle.std.specs.Prelude.{◌≡◌, ◌<◌, ℕ, pos, true, ◌&&◌};
 ghost use Rattle.sf_base.specs.Geometry.{is_within, LiesWithin};
-ghost use Rattle.sf_damage.specs.sf_view.Contents.{source_of, unsigned};
+ghost use Rattle.sf_compose.specs.inner.Bands.{HasRows, IsInBand};
+ghost use Rattle.sf_compose.specs.inner.Crops.{crop_pixel};
+ghost use Rattle.sf_compose.specs.inner.Moving.{Moves};
+ghost use Rattle.sf_compose.specs.inner.Painting.{is_in_area};
+ghost use Rattle.sf_damage.specs.sf_picture.Solid.{IsSolid};
 
 use crate::area::Area;
 use crate::band::{Band, row_start};
@@ -28,10 +26,7 @@ fn move_rows(picture: &Painted, crop: Crop, frame: &mut [u8], band: Band, area: 
         → (is_within crop.place.0 crop.rect.width (pos x) && is_within crop.place.1 crop.rect.height (pos y)) ≡ true }
     requires within { IsInBand band area }
     requires room { HasRows band frame.old }
-    ensures { (opaque : Bool) (below : ℕ → ℕ → RgbaValue → RgbaValue) → Paints band.width band.top (is_in_area area) (λ x y under.
-        painted (below x y under) (source_of opaque (pixel_at picture.now
-        (unsigned ((pos x +ℤ neg_ℤ crop.place.0) +ℤ crop.rect.x))
-        (unsigned ((pos y +ℤ neg_ℤ crop.place.1) +ℤ crop.rect.y)))) 255) frame.old frame.new }
+    ensures { Moves (crop_pixel picture.now crop) band area frame.old frame.new }
 {
     let rows = crop_rows(picture, crop, band.width, area.top, area.bottom);
     move_pixels(
@@ -53,10 +48,7 @@ pub fn move_crop(picture: &Painted, crop: Crop, frame: &mut [u8], band: Band, ar
         → (is_within crop.place.0 crop.rect.width (pos x) && is_within crop.place.1 crop.rect.height (pos y)) ≡ true }
     requires within { IsInBand band area }
     requires room { HasRows band frame.old }
-    ensures { (opaque : Bool) (below : ℕ → ℕ → RgbaValue → RgbaValue) → Paints band.width band.top (is_in_area area) (λ x y under.
-        painted (below x y under) (source_of opaque (pixel_at picture.now
-        (unsigned ((pos x +ℤ neg_ℤ crop.place.0) +ℤ crop.rect.x))
-        (unsigned ((pos y +ℤ neg_ℤ crop.place.1) +ℤ crop.rect.y)))) 255) frame.old frame.new }
+    ensures { Moves (crop_pixel picture.now crop) band area frame.old frame.new }
 {
     let width = picture.picture().width;
     if width == band.width && area.left == 0 && area.right == width {

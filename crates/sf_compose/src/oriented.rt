@@ -1,21 +1,19 @@
 //! Paints a crop that is oriented or mirrored: each row is picked out of the buffer first.
 ghost use Rattle.std.specs.Prelude.{◌≡◌, ◌+◌, ◌-◌, ◌*◌, ◌<◌, ◌≤◌, ℕ, length, pos, true, IsTrue, ◌≤ℤ◌, ◌+ℤ◌, neg_ℤ};
-ghost use Rattle.sf_base.specs.Paint.{painted};
 ghost use Rattle.sf_base.specs.Bytes.{pixel_in};
 ghost use Rattle.sf_base.specs.Geometry.{covers, is_within, LiesWithin};
-ghost use Rattle.sf_base.specs.declared.pixel.Rgba.{Rgba as RgbaValue};
+ghost use Rattle.sf_base.specs.Paint.{painted};
 ghost use Rattle.sf_compose.specs.inner.Bands.{HasRows, IsInBand};
 ghost use Rattle.sf_compose.specs.inner.Begun.{Spares};
-ghost use Rattle.sf_compose.specs.inner.Painting.{is_in_area, Paints, PaintsSpan};
-ghost use Rattle.sf_compose.specs.inner.Orientations.{along, is_back_across, is_back_down, pixel_shown, point_shown, step_of};
+ghost use Rattle.sf_compose.specs.inner.Orientations.{along, is_back_across, is_back_down, oriented_number, oriented_pixel, over_oriented, point_shown, step_of};
+ghost use Rattle.sf_compose.specs.inner.Painting.{is_in_area, PaintsAnew, PaintsArea, PaintsSpan, PaintsSpanAnew};
 ghost use Rattle.sf_damage.specs.sf_picture.Pixels.{HasSize};
 ghost use Rattle.sf_damage.specs.sf_view.Boxes.{box_of, is_sideways};
-ghost use Rattle.sf_damage.specs.sf_view.Contents.{source_of, unsigned};
 
 use crate::area::Area;
 use crate::band::{Band, row_start};
 use crate::oriented_moving::move_oriented;
-use crate::spans::{copy_pixels, paint_pixels};
+use crate::spans::{RowSpan, copy_pixels, paint_pixels};
 use sf_base::Rect;
 use sf_damage::sf_picture::{Painted, Picture};
 use sf_rows::pick_row;
@@ -135,8 +133,7 @@ pub fn shown_number(picture: &Picture, oriented: Oriented, x: u32, y: u32) -> u3
     requires crop { LiesWithin oriented.crop picture.now.width picture.now.height }
     requires orient { oriented.orient ≤ 7 }
     requires inside { covers (box_of oriented.crop oriented.orient oriented.place) (pos x) (pos y) ≡ true }
-    ensures { result ≡ unsigned (point_shown oriented.crop oriented.orient oriented.place (pos x) (pos y)).1 * picture.now.width
-        + unsigned (point_shown oriented.crop oriented.orient oriented.place (pos x) (pos y)).0 }
+    ensures { result ≡ oriented_number picture.now oriented x y }
 {
     let (column, row) = shown_point(picture, oriented, x, y);
     row * picture.width + column
@@ -157,8 +154,7 @@ pub fn pick_oriented(
     requires inside { (x : ℕ) → left ≤ x → x < right → covers (box_of oriented.crop oriented.orient oriented.place) (pos x) (pos y) ≡ true }
     requires size { length row.old ≡ 4 * (right - left) }
     ensures size { length row.new ≡ length row.old }
-    ensures pixels { (k : ℕ) → k < right - left → pixel_in row.new k
-        ≡ pixel_shown picture.now oriented.crop oriented.orient oriented.place (pos (left + k)) (pos y) }
+    ensures pixels { (k : ℕ) → k < right - left → pixel_in row.new k ≡ oriented_pixel picture.now oriented (left + k) y }
 {
     let first = shown_number(picture.picture(), oriented, left, y);
     let step = step_of(picture.picture(), oriented.orient);
@@ -170,29 +166,25 @@ pub fn pick_oriented(
 fn paint_oriented_row(
     picture: &Painted,
     oriented: Oriented,
-    row: &mut [u8],
+    picked: &mut [u8],
     frame: &mut [u8],
-    start: usize,
-    y: u32,
-    left: u32,
-    right: u32,
+    row: RowSpan,
 )
     requires crop { LiesWithin oriented.crop picture.now.width picture.now.height }
     requires orient { oriented.orient ≤ 7 }
-    requires ordered { left < right }
-    requires inside { (x : ℕ) → left ≤ x → x < right → covers (box_of oriented.crop oriented.orient oriented.place) (pos x) (pos y) ≡ true }
-    requires few { 4 * (right - left) ≤ length row.old }
-    requires room { 4 * (start + right) ≤ length frame.old }
-    ensures { PaintsSpan frame.old frame.new (start + left) (start + right) (λ i under.
-        painted under (source_of oriented.opaque (pixel_shown picture.now oriented.crop oriented.orient oriented.place (pos (i - start)) (pos y))) oriented.alpha) }
+    requires ordered { row.left < row.right }
+    requires inside { (x : ℕ) → row.left ≤ x → x < row.right → covers (box_of oriented.crop oriented.orient oriented.place) (pos x) (pos row.y) ≡ true }
+    requires few { 4 * (row.right - row.left) ≤ length picked.old }
+    requires room { 4 * (row.start + row.right) ≤ length frame.old }
+    ensures { PaintsSpan frame.old frame.new (row.start + row.left) (row.start + row.right) (λ i. over_oriented picture.now oriented (i - row.start) row.y) }
 {
-    let picked = &mut row[..4 * (right - left) as usize];
-    pick_oriented(picture, oriented, y, left, right, picked);
+    let pixels = &mut picked[..4 * (row.right - row.left) as usize];
+    pick_oriented(picture, oriented, row.y, row.left, row.right, pixels);
     paint_pixels(
         frame,
-        start + left as usize,
-        start + right as usize,
-        picked,
+        row.start + row.left as usize,
+        row.start + row.right as usize,
+        pixels,
         oriented.opaque,
         oriented.alpha,
     );
@@ -203,33 +195,31 @@ fn paint_oriented_row(
 fn copy_oriented_row(
     picture: &Painted,
     oriented: Oriented,
-    row: &mut [u8],
+    picked: &mut [u8],
     frame: &mut [u8],
-    start: usize,
-    y: u32,
-    left: u32,
-    right: u32,
+    row: RowSpan,
 ) -> bool
     requires crop { LiesWithin oriented.crop picture.now.width picture.now.height }
     requires orient { oriented.orient ≤ 7 }
-    requires ordered { left < right }
-    requires inside { (x : ℕ) → left ≤ x → x < right → covers (box_of oriented.crop oriented.orient oriented.place) (pos x) (pos y) ≡ true }
-    requires few { 4 * (right - left) ≤ length row.old }
-    requires room { 4 * (start + right) ≤ length frame.old }
-    ensures touched { PaintsSpan frame.old frame.new (start + left) (start + right) (λ i under. pixel_in frame.new i) }
-    ensures copied { IsTrue result → (below : ℕ → RgbaValue) → PaintsSpan frame.old frame.new (start + left) (start + right) (λ i under.
-        painted (below i) (pixel_shown picture.now oriented.crop oriented.orient oriented.place (pos (i - start)) (pos y)) 255) }
+    requires ordered { row.left < row.right }
+    requires inside { (x : ℕ) → row.left ≤ x → x < row.right → covers (box_of oriented.crop oriented.orient oriented.place) (pos x) (pos row.y) ≡ true }
+    requires few { 4 * (row.right - row.left) ≤ length picked.old }
+    requires room { 4 * (row.start + row.right) ≤ length frame.old }
+    ensures touched { PaintsSpan frame.old frame.new (row.start + row.left) (row.start + row.right) (λ i under. pixel_in frame.new i) }
+    ensures copied { IsTrue result → PaintsSpanAnew frame.old frame.new (row.start + row.left) (row.start + row.right)
+        (λ i under. painted under (oriented_pixel picture.now oriented (i - row.start) row.y) 255) }
 {
-    let picked = &mut row[..4 * (right - left) as usize];
-    pick_oriented(picture, oriented, y, left, right, picked);
-    copy_pixels(frame, start + left as usize, start + right as usize, picked)
+    let pixels = &mut picked[..4 * (row.right - row.left) as usize];
+    pick_oriented(picture, oriented, row.y, row.left, row.right, pixels);
+    let start = row.start + row.left as usize;
+    copy_pixels(frame, start, row.start + row.right as usize, pixels)
 }
 
 /// Paints an oriented crop over an area that its box has, row by row.
 fn paint_oriented_rows(
     picture: &Painted,
     oriented: Oriented,
-    row: &mut [u8],
+    picked: &mut [u8],
     frame: &mut [u8],
     band: Band,
     area: Area,
@@ -237,20 +227,23 @@ fn paint_oriented_rows(
     requires crop { LiesWithin oriented.crop picture.now.width picture.now.height }
     requires orient { oriented.orient ≤ 7 }
     requires inside { (x y : ℕ) → is_in_area area x y ≡ true → covers (box_of oriented.crop oriented.orient oriented.place) (pos x) (pos y) ≡ true }
-    requires few { 4 * (area.right - area.left) ≤ length row.old }
+    requires few { 4 * (area.right - area.left) ≤ length picked.old }
     requires within { IsInBand band area }
     requires room { HasRows band frame.old }
-    ensures { Paints band.width band.top (is_in_area area) (λ x y under.
-        painted under (source_of oriented.opaque (pixel_shown picture.now oriented.crop oriented.orient oriented.place (pos x) (pos y))) oriented.alpha) frame.old frame.new }
+    ensures { PaintsArea band area (over_oriented picture.now oriented) frame.old frame.new }
 {
     if area.left >= area.right || area.top >= area.bottom {
         return;
     }
     for y in area.top..area.bottom {
         let start = row_start(band, y);
-        paint_oriented_row(
-            picture, oriented, row, frame, start, y, area.left, area.right,
-        );
+        let row = RowSpan {
+            start,
+            y,
+            left: area.left,
+            right: area.right,
+        };
+        paint_oriented_row(picture, oriented, picked, frame, row);
     }
 }
 
@@ -259,7 +252,7 @@ fn paint_oriented_rows(
 fn copy_oriented_rows(
     picture: &Painted,
     oriented: Oriented,
-    row: &mut [u8],
+    picked: &mut [u8],
     frame: &mut [u8],
     band: Band,
     area: Area,
@@ -267,21 +260,24 @@ fn copy_oriented_rows(
     requires crop { LiesWithin oriented.crop picture.now.width picture.now.height }
     requires orient { oriented.orient ≤ 7 }
     requires inside { (x y : ℕ) → is_in_area area x y ≡ true → covers (box_of oriented.crop oriented.orient oriented.place) (pos x) (pos y) ≡ true }
-    requires few { 4 * (area.right - area.left) ≤ length row.old }
+    requires few { 4 * (area.right - area.left) ≤ length picked.old }
     requires within { IsInBand band area }
     requires room { HasRows band frame.old }
     ensures spared { Spares band.width band.top (is_in_area area) frame.old frame.new }
-    ensures copied { IsTrue result → (below : ℕ → ℕ → RgbaValue) → Paints band.width band.top (is_in_area area) (λ x y under.
-        painted (below x y) (pixel_shown picture.now oriented.crop oriented.orient oriented.place (pos x) (pos y)) 255) frame.old frame.new }
+    ensures copied { IsTrue result → PaintsAnew band area (λ x y under. painted under (oriented_pixel picture.now oriented x y) 255) frame.old frame.new }
 {
     if area.left >= area.right || area.top >= area.bottom {
         return false;
     }
     for y in area.top..area.bottom {
         let start = row_start(band, y);
-        if !copy_oriented_row(
-            picture, oriented, row, frame, start, y, area.left, area.right,
-        ) {
+        let row = RowSpan {
+            start,
+            y,
+            left: area.left,
+            right: area.right,
+        };
+        if !copy_oriented_row(picture, oriented, picked, frame, row) {
             return false;
         }
     }
@@ -331,8 +327,7 @@ pub fn paint_oriented(
     requires inside { (x y : ℕ) → is_in_area area x y ≡ true → covers (box_of oriented.crop oriented.orient oriented.place) (pos x) (pos y) ≡ true }
     requires within { IsInBand band area }
     requires room { HasRows band frame.old }
-    ensures { Paints band.width band.top (is_in_area area) (λ x y under.
-        painted under (source_of oriented.opaque (pixel_shown picture.now oriented.crop oriented.orient oriented.place (pos x) (pos y))) oriented.alpha) frame.old frame.new }
+    ensures { PaintsArea band area (over_oriented picture.now oriented) frame.old frame.new }
 {
     if area.left >= area.right || area.top >= area.bottom {
         return;
@@ -366,8 +361,7 @@ pub fn copy_oriented(
     requires within { IsInBand band area }
     requires room { HasRows band frame.old }
     ensures spared { Spares band.width band.top (is_in_area area) frame.old frame.new }
-    ensures copied { IsTrue result → (below : ℕ → ℕ → RgbaValue) → Paints band.width band.top (is_in_area area) (λ x y under.
-        painted (below x y) (pixel_shown picture.now oriented.crop oriented.orient oriented.place (pos x) (pos y)) 255) frame.old frame.new }
+    ensures copied { IsTrue result → PaintsAnew band area (λ x y under. painted under (oriented_pixel picture.now oriented x y) 255) frame.old frame.new }
 {
     if area.left >= area.right || area.top >= area.bottom {
         return false;

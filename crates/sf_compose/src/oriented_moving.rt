@@ -1,15 +1,12 @@
 //! Copies oriented crops of pictures that hide what lies below.
-ghost use Rattle.std.specs.Prelude.{◌≡◌, ◌+◌, ◌-◌, ◌*◌, ◌%◌, ◌<◌, ◌≤◌, ℕ, Bool, if◌then◌else◌, length, pos, true};
+ghost use Rattle.std.specs.Prelude.{◌≡◌, ◌+◌, ◌-◌, ◌*◌, ◌%◌, ◌<◌, ◌≤◌, ℕ, if◌then◌else◌, length, pos, true};
 ghost use Rattle.sf_base.specs.Geometry.{covers, LiesWithin};
-ghost use Rattle.sf_base.specs.Paint.{painted};
-ghost use Rattle.sf_base.specs.declared.pixel.Rgba.{Rgba as RgbaValue};
 ghost use Rattle.sf_compose.specs.inner.Bands.{HasRows, IsInBand};
-ghost use Rattle.sf_compose.specs.inner.Painting.{is_in_area, PaintsSpan};
-ghost use Rattle.sf_compose.specs.inner.Moving.{Moves};
-ghost use Rattle.sf_compose.specs.inner.Orientations.{pixel_shown};
+ghost use Rattle.sf_compose.specs.inner.Moving.{Moves, MovesSpan};
+ghost use Rattle.sf_compose.specs.inner.Orientations.{oriented_pixel};
+ghost use Rattle.sf_compose.specs.inner.Painting.{is_in_area};
 ghost use Rattle.sf_damage.specs.sf_picture.Solid.{IsSolid};
 ghost use Rattle.sf_damage.specs.sf_view.Boxes.{box_of, is_sideways};
-ghost use Rattle.sf_damage.specs.sf_view.Contents.{source_of};
 
 use crate::area::Area;
 use crate::band::{Band, row_start};
@@ -17,35 +14,29 @@ use crate::oriented::{
     Oriented, columns_at_once, columns_from, is_back_across, is_sideways, pick_oriented,
     shown_number, step_of,
 };
+use crate::spans::RowSpan;
 use sf_damage::sf_picture::Painted;
 use sf_rows::{FourRows, pick_four_rows};
 
 /// Moves the points of a row from one on and before another, where the row starts at a pixel of the
 /// frame.
-fn move_oriented_row(
-    picture: &Painted,
-    oriented: Oriented,
-    frame: &mut [u8],
-    start: usize,
-    y: u32,
-    left: u32,
-    right: u32,
-)
+fn move_oriented_row(picture: &Painted, oriented: Oriented, frame: &mut [u8], row: RowSpan)
     requires crop { LiesWithin oriented.crop picture.now.width picture.now.height }
     requires orient { oriented.orient ≤ 7 }
     requires solid { IsSolid picture.now }
-    requires ordered { left < right }
-    requires inside { (x : ℕ) → left ≤ x → x < right → covers (box_of oriented.crop oriented.orient oriented.place) (pos x) (pos y) ≡ true }
-    requires room { 4 * (start + right) ≤ length frame.old }
-    ensures { (opaque : Bool) (below : ℕ → RgbaValue → RgbaValue) → PaintsSpan frame.old frame.new (start + left) (start + right) (λ i under.
-        painted (below i under) (source_of opaque (pixel_shown picture.now oriented.crop oriented.orient oriented.place (pos (i - start)) (pos y))) 255) }
+    requires ordered { row.left < row.right }
+    requires inside { (x : ℕ) → row.left ≤ x → x < row.right → covers (box_of oriented.crop oriented.orient oriented.place) (pos x) (pos row.y) ≡ true }
+    requires room { 4 * (row.start + row.right) ≤ length frame.old }
+    ensures { MovesSpan frame.old frame.new (row.start + row.left) (row.start + row.right) (λ i. oriented_pixel picture.now oriented (i - row.start) row.y) }
 {
-    let from = 4 * (start + left as usize);
-    let to = 4 * (start + right as usize);
-    pick_oriented(picture, oriented, y, left, right, &mut frame[from..to]);
+    let from = 4 * (row.start + row.left as usize);
+    let to = 4 * (row.start + row.right as usize);
+    let pixels = &mut frame[from..to];
+    pick_oriented(picture, oriented, row.y, row.left, row.right, pixels);
 }
 
-/// Moves an oriented crop of a solid picture over an area that its box has, row by row.
+/// Moves an oriented crop of a solid picture over an area that its box has, which may have no points,
+/// row by row.
 fn move_oriented_rows(
     picture: &Painted,
     oriented: Oriented,
@@ -56,16 +47,23 @@ fn move_oriented_rows(
     requires crop { LiesWithin oriented.crop picture.now.width picture.now.height }
     requires orient { oriented.orient ≤ 7 }
     requires solid { IsSolid picture.now }
-    requires across { area.left < area.right }
-    requires down { area.top < area.bottom }
     requires inside { (x y : ℕ) → is_in_area area x y ≡ true → covers (box_of oriented.crop oriented.orient oriented.place) (pos x) (pos y) ≡ true }
     requires within { IsInBand band area }
     requires room { HasRows band frame.old }
-    ensures { Moves picture.now oriented band area frame.old frame.new }
+    ensures { Moves (oriented_pixel picture.now oriented) band area frame.old frame.new }
 {
+    if area.left >= area.right || area.top >= area.bottom {
+        return;
+    }
     for y in area.top..area.bottom {
         let start = row_start(band, y);
-        move_oriented_row(picture, oriented, frame, start, y, area.left, area.right);
+        let row = RowSpan {
+            start,
+            y,
+            left: area.left,
+            right: area.right,
+        };
+        move_oriented_row(picture, oriented, frame, row);
     }
 }
 
@@ -89,7 +87,7 @@ fn move_four_rows(picture: &Painted, oriented: Oriented, frame: &mut [u8], band:
     requires inside { (x y : ℕ) → is_in_area area x y ≡ true → covers (box_of oriented.crop oriented.orient oriented.place) (pos x) (pos y) ≡ true }
     requires within { IsInBand band area }
     requires room { HasRows band frame.old }
-    ensures { Moves picture.now oriented band area frame.old frame.new }
+    ensures { Moves (oriented_pixel picture.now oriented) band area frame.old frame.new }
 {
     let back = is_back_across(oriented.orient);
     let row = lowest_row(back, area.top);
@@ -115,7 +113,7 @@ fn move_fours(picture: &Painted, oriented: Oriented, frame: &mut [u8], band: Ban
     requires inside { (x y : ℕ) → is_in_area area x y ≡ true → covers (box_of oriented.crop oriented.orient oriented.place) (pos x) (pos y) ≡ true }
     requires within { IsInBand band area }
     requires room { HasRows band frame.old }
-    ensures { Moves picture.now oriented band area frame.old frame.new }
+    ensures { Moves (oriented_pixel picture.now oriented) band area frame.old frame.new }
 {
     if area.left >= area.right {
         return;
@@ -133,22 +131,6 @@ fn move_fours(picture: &Painted, oriented: Oriented, frame: &mut [u8], band: Ban
     }
 }
 
-/// Moves an oriented crop of a solid picture over an area, which may have no points, row by row.
-fn move_rest(picture: &Painted, oriented: Oriented, frame: &mut [u8], band: Band, area: Area)
-    requires crop { LiesWithin oriented.crop picture.now.width picture.now.height }
-    requires orient { oriented.orient ≤ 7 }
-    requires solid { IsSolid picture.now }
-    requires inside { (x y : ℕ) → is_in_area area x y ≡ true → covers (box_of oriented.crop oriented.orient oriented.place) (pos x) (pos y) ≡ true }
-    requires within { IsInBand band area }
-    requires room { HasRows band frame.old }
-    ensures { Moves picture.now oriented band area frame.old frame.new }
-{
-    if area.left >= area.right || area.top >= area.bottom {
-        return;
-    }
-    move_oriented_rows(picture, oriented, frame, band, area);
-}
-
 /// Moves a crop that stands on its side over an area: by fours, then the columns and the rows that are
 /// left.
 fn move_sideways(picture: &Painted, oriented: Oriented, frame: &mut [u8], band: Band, area: Area)
@@ -161,7 +143,7 @@ fn move_sideways(picture: &Painted, oriented: Oriented, frame: &mut [u8], band: 
     requires inside { (x y : ℕ) → is_in_area area x y ≡ true → covers (box_of oriented.crop oriented.orient oriented.place) (pos x) (pos y) ≡ true }
     requires within { IsInBand band area }
     requires room { HasRows band frame.old }
-    ensures { Moves picture.now oriented band area frame.old frame.new }
+    ensures { Moves (oriented_pixel picture.now oriented) band area frame.old frame.new }
 {
     let right = area.right - (area.right - area.left) % 4;
     let bottom = area.bottom - (area.bottom - area.top) % 4;
@@ -180,8 +162,8 @@ fn move_sideways(picture: &Painted, oriented: Oriented, frame: &mut [u8], band: 
         ..area
     };
     move_fours(picture, oriented, frame, band, fours);
-    move_rest(picture, oriented, frame, band, beside);
-    move_rest(picture, oriented, frame, band, below);
+    move_oriented_rows(picture, oriented, frame, band, beside);
+    move_oriented_rows(picture, oriented, frame, band, below);
 }
 
 /// Moves an oriented crop of a solid picture over an area: by fours where it stands on its side, else row
@@ -195,7 +177,7 @@ fn move_block(picture: &Painted, oriented: Oriented, frame: &mut [u8], band: Ban
     requires inside { (x y : ℕ) → is_in_area area x y ≡ true → covers (box_of oriented.crop oriented.orient oriented.place) (pos x) (pos y) ≡ true }
     requires within { IsInBand band area }
     requires room { HasRows band frame.old }
-    ensures { Moves picture.now oriented band area frame.old frame.new }
+    ensures { Moves (oriented_pixel picture.now oriented) band area frame.old frame.new }
 {
     if is_sideways(oriented.orient) {
         move_sideways(picture, oriented, frame, band, area);
@@ -220,7 +202,7 @@ pub fn move_oriented(
     requires inside { (x y : ℕ) → is_in_area area x y ≡ true → covers (box_of oriented.crop oriented.orient oriented.place) (pos x) (pos y) ≡ true }
     requires within { IsInBand band area }
     requires room { HasRows band frame.old }
-    ensures { Moves picture.now oriented band area frame.old frame.new }
+    ensures { Moves (oriented_pixel picture.now oriented) band area frame.old frame.new }
 {
     let columns = columns_at_once(oriented.orient);
     let mut left = area.left;

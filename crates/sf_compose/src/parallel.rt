@@ -1,52 +1,53 @@
 //! Composes a part of a frame in as many threads as are worth their start: what a screen calls for
 //! each image.
-ghost use Rattle.std.specs.Prelude.{◌≡◌, ◌*◌, ◌≤◌, length, map, OnErr, OnOk, pos};
-ghost use Rattle.sf_compose.specs.inner.Bands.{HasRows};
-ghost use Rattle.sf_compose.specs.Frames.{KeepsRest, Repaints, ShowsPart};
+ghost use Rattle.std.specs.Prelude.{◌≡◌, ◌*◌, ◌≤◌, length, map, IsOk, OnErr, OnOk};
+ghost use Rattle.sf_compose.specs.Composed.{AreComposable, AreShownIn};
+ghost use Rattle.sf_compose.specs.Frames.{KeepsRest, ShowsPart};
 ghost use Rattle.sf_compose.specs.Readings.{AreReadable, read_image};
-ghost use Rattle.sf_damage.specs.Visible.{AreVisibleIn};
-ghost use Rattle.sf_damage.specs.sf_region.Points.{has};
+ghost use Rattle.sf_compose.specs.inner.Bands.{HasRows, is_in, RepaintsBand};
 
 use crate::band::{Band, all_rows};
 use crate::beside::compose_bands;
-use crate::one::compose_band;
+use crate::composition::Composition;
 use crate::pixels::Pixels;
-use crate::seen::compose_band_seen;
+use crate::seen::compose_band;
 use crate::share::{Share, painted_at_most, points_in};
 use sf_base::NoMemory;
 use sf_damage::sf_region::Region;
 use sf_damage::sf_view::View;
 use std::thread::Threads;
 
-/// At most so many points of layers are painted in a part.
-fn work_of(view: &View, part: &Region) -> u64 {
-    painted_at_most(view, points_in(part, all_rows(view)))
-}
-
-/// How many are painted if of each layer only so much shows. One worker need not know.
-fn work_of_seen(workers: u32, view: &View, shows: &[Region], part: &Region) -> u64 {
+/// At most so many points of layers are painted in a part. One worker need not know.
+fn work_of<C>(workers: u32, composition: &Composition<C>, part: &Region) -> u64 {
     if workers <= 1 {
         return 0;
     }
-    let rows = all_rows(view);
+    let rows = all_rows(composition.view);
     let points = points_in(part, rows);
-    let mut work = 0u64;
-    for shown in shows {
-        work = work.saturating_add(points_in(shown, rows).min(points));
+    match composition.shows {
+        None => painted_at_most(composition.view, points),
+        Some(shows) => shown_at_most(shows, rows, points),
     }
-    work
+}
+
+/// How many are painted if of each layer only so much shows.
+fn shown_at_most(shows: &[Region], rows: Band, points: u64) -> u64 {
+    let mut painted = 0u64;
+    for shown in shows {
+        painted = painted.saturating_add(points_in(shown, rows).min(points));
+    }
+    painted
 }
 
 /// Composes a view into a part of a frame as `compose_one` does, with the same bytes, in at most as
 /// many threads as there are workers, 1 to 16: each has a band of the frame's rows. Where too
-/// little is painted for a thread to be worth its start, none is started. After running out of
-/// memory the frame is as it was.
-pub fn compose<R: Threads + Sync, C: Pixels + Sync>(
+/// little is painted for a thread to be worth its start, none is started. It needs no memory.
+pub fn compose<'a, R: Threads + Sync, C: Pixels + Sync>(
     rt: &R,
     workers: u32,
-    view: &View,
-    contents: &[C],
-    sources: &[u32],
+    view: &'a View,
+    contents: &'a [C],
+    sources: &'a [u32],
     part: &Region,
     frame: &mut [u8],
 ) -> Result<(), NoMemory>
@@ -54,62 +55,54 @@ pub fn compose<R: Threads + Sync, C: Pixels + Sync>(
     requires few { workers ≤ 16 }
     requires readable { AreReadable (map C.picture contents.now) view.now.drawn sources.now }
     requires room { length frame.old ≡ 4 * (view.now.width * view.now.height) }
+    ensures ok { IsOk result }
     ensures image { OnOk result (ShowsPart view.now part.now
         (read_image (map C.picture contents.now) view.now sources.now) frame.new) }
     ensures err { OnErr result (frame.new ≡ frame.old) }
     ensures rest { KeepsRest view.now part.now frame.old frame.new }
 {
-    let share = Share::among(workers, part, work_of(view, part));
-    compose_bands(
-        rt,
-        &|band: Band, bytes: &mut [u8]|
-            requires { AreReadable (map C.picture contents.now) view.now.drawn sources.now × HasRows band bytes.now }
-            ensures { Repaints band.width band.top band.bottom (λ x y. has part.entry.now (pos x) (pos y))
-                (read_image (map C.picture contents.entry.now) view.entry.now sources.entry.now) bytes.entry.now bytes.exit.now }
-        {
-            compose_band(view, contents, sources, part, band, bytes);
-        },
-        share,
-        all_rows(view),
-        frame,
-    );
-    Ok(())
+    let composition = Composition {
+        view,
+        contents,
+        sources,
+        shows: None,
+    };
+    compose_by(rt, workers, &composition, part, frame)
 }
 
-/// Composes a view into a part of a frame, with the same bytes as `compose`. Given what shows of
-/// each layer, it leaves out the rest to save time; its contract speaks of the bytes alone.
-pub fn compose_seen_by<R: Threads + Sync, C: Pixels + Sync>(
+/// Composes what `compose` does, with the same bytes. Where it is given what shows of each layer, it
+/// leaves out the rest to save time; its contract speaks of the bytes alone.
+pub fn compose_by<R: Threads + Sync, C: Pixels + Sync>(
     rt: &R,
     workers: u32,
-    view: &View,
-    contents: &[C],
-    sources: &[u32],
-    shows: &[Region],
+    composition: &Composition<C>,
     part: &Region,
     frame: &mut [u8],
 ) -> Result<(), NoMemory>
     requires some { 1 ≤ workers }
     requires few { workers ≤ 16 }
-    requires readable { AreReadable (map C.picture contents.now) view.now.drawn sources.now }
-    requires visible { AreVisibleIn part.now view.now.drawn shows.now }
-    requires room { length frame.old ≡ 4 * (view.now.width * view.now.height) }
-    ensures image { OnOk result (ShowsPart view.now part.now
-        (read_image (map C.picture contents.now) view.now sources.now) frame.new) }
+    requires readable { AreReadable (map C.picture composition.now.contents.now) composition.now.view.now.drawn composition.now.sources.now }
+    requires visible { AreShownIn part.now composition.now.view.now.drawn composition.now.shows }
+    requires room { length frame.old ≡ 4 * (composition.now.view.now.width * composition.now.view.now.height) }
+    ensures ok { IsOk result }
+    ensures image { OnOk result (ShowsPart composition.now.view.now part.now
+        (read_image (map C.picture composition.now.contents.now) composition.now.view.now composition.now.sources.now) frame.new) }
     ensures err { OnErr result (frame.new ≡ frame.old) }
-    ensures rest { KeepsRest view.now part.now frame.old frame.new }
+    ensures rest { KeepsRest composition.now.view.now part.now frame.old frame.new }
 {
-    let share = Share::among(workers, part, work_of_seen(workers, view, shows, part));
+    let share = Share::among(workers, part, work_of(workers, composition, part));
     compose_bands(
         rt,
         &|band: Band, bytes: &mut [u8]|
-            requires { AreReadable (map C.picture contents.now) view.now.drawn sources.now × AreVisibleIn part.now view.now.drawn shows.now × HasRows band bytes.now }
-            ensures { Repaints band.width band.top band.bottom (λ x y. has part.entry.now (pos x) (pos y))
-                (read_image (map C.picture contents.entry.now) view.entry.now sources.entry.now) bytes.entry.now bytes.exit.now }
+            requires { AreComposable (map C.picture composition.now.contents.now) composition.now.view.now.drawn composition.now.sources.now composition.now.shows part.now
+                × HasRows band bytes.now }
+            ensures { RepaintsBand band (is_in part.entry.now)
+                (read_image (map C.picture composition.entry.now.contents.now) composition.entry.now.view.now composition.entry.now.sources.now) bytes.entry.now bytes.exit.now }
         {
-            compose_band_seen(view, contents, sources, shows, part, band, bytes);
+            compose_band(composition, part, band, bytes);
         },
         share,
-        all_rows(view),
+        all_rows(composition.view),
         frame,
     );
     Ok(())

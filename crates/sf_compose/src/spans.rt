@@ -1,14 +1,23 @@
 //! The pixels of one row of a frame, painted by the kernels of `sf_rows`.
 ghost use Rattle.std.specs.Prelude.{◌≡◌, ℕ, ◌+◌, ◌-◌, ◌*◌, ◌≤◌, length, true, IsTrue};
 ghost use Rattle.sf_base.specs.Paint.{painted};
-ghost use Rattle.sf_compose.specs.inner.Painting.{PaintsSpan};
+ghost use Rattle.sf_compose.specs.inner.Painting.{PaintsSpan, PaintsSpanAnew};
 ghost use Rattle.sf_base.specs.Bytes.{pixel_in};
-ghost use Rattle.sf_base.specs.declared.pixel.Rgba.{Rgba as RgbaValue};
 ghost use Rattle.sf_damage.specs.sf_view.Contents.{source_of};
 
 use crate::solid::copy_solid;
 use sf_base::Rgba;
 use sf_rows::{blend_colour, blend_row, blend_row_opaque};
+
+// Points of a row of a frame: those of row `y` from one on and before another. The row starts at a pixel
+// of the frame.
+#[derive(Clone, Copy)]
+pub struct RowSpan {
+    pub start: usize,
+    pub y: u32,
+    pub left: u32,
+    pub right: u32,
+}
 
 /// Paints a colour over the pixels from one number on and before another.
 pub fn paint_colour(frame: &mut [u8], start: usize, end: usize, colour: Rgba, alpha: u8)
@@ -94,8 +103,7 @@ pub fn copy_pixels(frame: &mut [u8], start: usize, end: usize, row: &[u8]) -> bo
     requires within { 4 * end ≤ length frame.old }
     requires same { length row.now ≡ 4 * end - 4 * start }
     ensures touched { PaintsSpan frame.old frame.new start end (λ i under. pixel_in frame.new i) }
-    ensures copied { IsTrue result → (below : ℕ → RgbaValue) → PaintsSpan frame.old frame.new start end
-        (λ i under. painted (below i) (pixel_in row.now (i - start)) 255) }
+    ensures copied { IsTrue result → PaintsSpanAnew frame.old frame.new start end (λ i under. painted under (pixel_in row.now (i - start)) 255) }
 {
     copy_solid(&mut frame[4 * start..4 * end], row)
 }

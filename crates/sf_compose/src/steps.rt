@@ -4,10 +4,11 @@ ghost use Rattle.sf_compose.specs.Readings.{IsReadable};
 
 use crate::area::{Area, cut, points_of};
 use crate::band::Band;
+use crate::composition::SourcedLayer;
 use crate::contents::read;
 use crate::pixels::Pixels;
 use sf_base::Rect;
-use sf_damage::sf_view::{Content, Drawn};
+use sf_damage::sf_view::Content;
 
 // A row that is moved by itself takes as long as so many pixels more.
 const ROW_PIXELS: u64 = 128;
@@ -33,13 +34,14 @@ fn steps_of_parts(parts: &[Rect], band: Band, area: Area) -> u64 {
 }
 
 /// Whether the pixels of a drawn layer are moved as they are.
-fn is_moved<C: Pixels>(drawn: &Drawn, contents: &[C], source: u32) -> bool
-    requires { IsReadable (map C.picture contents.now) drawn.now.content source }
+fn is_moved<C: Pixels>(layer: &SourcedLayer<C>) -> bool
+    requires { IsReadable (map C.picture layer.now.contents.now) layer.now.drawn.now.content layer.now.source }
 {
+    let drawn = layer.drawn;
     match drawn.content {
         Content::Colour(_) => false,
         Content::Buffer(_) => {
-            drawn.alpha == 255 && drawn.orient == 0 && read(contents, source).is_solid()
+            drawn.alpha == 255 && drawn.orient == 0 && read(layer.contents, layer.source).is_solid()
         }
     }
 }
@@ -48,15 +50,13 @@ fn is_moved<C: Pixels>(drawn: &Drawn, contents: &[C], source: u32) -> bool
 /// inlined: most layers show in one part, and the loop over all layers is shorter without it.
 #[inline(never)]
 pub fn is_faster_whole<C: Pixels>(
-    drawn: &Drawn,
-    contents: &[C],
-    source: u32,
+    layer: &SourcedLayer<C>,
     parts: &[Rect],
     band: Band,
     area: Area,
 ) -> bool
-    requires { IsReadable (map C.picture contents.now) drawn.now.content source }
+    requires { IsReadable (map C.picture layer.now.contents.now) layer.now.drawn.now.content layer.now.source }
 {
-    is_moved(drawn, contents, source)
-        && steps_of(cut(area, &drawn.clip), band) < steps_of_parts(parts, band, area)
+    is_moved(layer)
+        && steps_of(cut(area, &layer.drawn.clip), band) < steps_of_parts(parts, band, area)
 }

@@ -1,9 +1,8 @@
 //! The points at which two lists of drawn layers have different stacks, layer by layer.
-ghost use Rattle.std.specs.Prelude.{◌≡◌, ℤ, ◌∷◌, [], Bool, List, true, ◌||◌, IfOk, OnOk};
+ghost use Rattle.std.specs.Prelude.{◌≡◌, ℤ, true, IfOk, OnOk};
 ghost use Rattle.sf_region.specs.Points.{IsInBounds, has};
 ghost use Rattle.sf_view.specs.Views.{is_in_clip};
-ghost use Rattle.sf_view.specs.declared.drawn.Drawn.{Drawn as DrawnValue};
-ghost use Rattle.sf_damage.specs.inner.Comparing.{Comparison, IsOpen, IsTold};
+ghost use Rattle.sf_damage.specs.inner.Comparing.{Decides, DecidesLast};
 ghost use Rattle.sf_damage.specs.Damage.{AreNear, DiffersIn};
 
 use crate::parts::{Halves, is_empty, split};
@@ -27,10 +26,7 @@ fn compare_clip(
 ) -> Result<(), NoMemory>
     requires news { AreNear news.now }
     requires inside { (x y : ℤ) → has piece.part x y ≡ true → is_in_clip old.now x y ≡ true }
-    ensures { OnOk result ((c : Comparison) (olds : List DrawnValue) (others : ℤ → ℤ → Bool)
-        → IsOpen c (old.now ∷ olds) news.now piece
-        → IsTold c olds news.now (λ x y. has piece.part x y || others x y) above.old.items found.old.items
-        → IsTold c olds news.now others above.new.items found.new.items) }
+    ensures { OnOk result (Decides old.now news.now piece above.old.items found.old.items above.new.items found.new.items) }
 {
     let Piece { part, from } = piece;
     let mut rest = part;
@@ -60,10 +56,7 @@ fn compare_layer(
 ) -> Result<(), NoMemory>
     requires old { IsInBounds old.now.clip }
     requires news { AreNear news.now }
-    ensures { OnOk result ((c : Comparison) (olds : List DrawnValue) (others : ℤ → ℤ → Bool)
-        → IsOpen c (old.now ∷ olds) news.now piece
-        → IsTold c olds news.now (λ x y. has piece.part x y || others x y) above.old.items found.old.items
-        → IsTold c olds news.now others above.new.items found.new.items) }
+    ensures { OnOk result (Decides old.now news.now piece above.old.items found.old.items above.new.items found.new.items) }
 {
     let Piece { part, from } = piece;
     if from < news.len() && is_same(old, &news[from]) {
@@ -83,10 +76,7 @@ fn compare_rest(
     found: &mut Vec<Region>,
 ) -> Result<(), NoMemory>
     requires news { AreNear news.now }
-    ensures { OnOk result ((c : Comparison) (others : ℤ → ℤ → Bool)
-        → IsOpen c [] news.now piece
-        → IsTold c [] news.now (λ x y. has piece.part x y || others x y) [] found.old.items
-        → IsTold c [] news.now others [] found.new.items) }
+    ensures { OnOk result (DecidesLast news.now piece found.old.items found.new.items) }
 {
     let Piece { part, from } = piece;
     let mut rest = part;

@@ -1,14 +1,13 @@
 //! Where each drawn layer shows, below the opaque ones in front of it: of each layer composing
 //! paints only that.
-ghost use Rattle.std.specs.Prelude.{◌≡◌, ℤ, ◌&&◌, not, true, IfOk, OnOk, List, ◌∷◌, reverse};
+ghost use Rattle.std.specs.Prelude.{◌≡◌, ℤ, ◌&&◌, not, true, IfOk, OnOk, reverse};
 ghost use Rattle.std.specs.List.{All, filter, list_any};
 ghost use Rattle.sf_base.specs.Geometry.{covers};
 ghost use Rattle.sf_region.specs.Points.{IsInBounds, has};
 ghost use Rattle.sf_damage.specs.Damage.{AreNear};
 ghost use Rattle.sf_damage.specs.inner.Meeting.{meets, rect_has};
-ghost use Rattle.sf_damage.specs.inner.Showing.{IsShown};
+ghost use Rattle.sf_damage.specs.inner.Showing.{ShowsOneMore};
 ghost use Rattle.sf_damage.specs.Visible.{AreVisibleAt, AreVisibleIn, AreWithin, hides_all};
-ghost use Rattle.sf_view.specs.declared.drawn.Drawn.{Drawn as DrawnValue};
 
 use crate::bounds::bounds;
 use crate::gathered::region_of;
@@ -93,8 +92,7 @@ fn show_one(
 ) -> Result<(), NoMemory>
     requires near { IsInBounds drawn.now.clip }
     requires hidden { All IsInBounds hidden.old.items }
-    ensures { OnOk result ((above : List DrawnValue) → IsShown (covers window.now) above shown.old.items hidden.old.items
-        → IsShown (covers window.now) (drawn.now ∷ above) shown.new.items hidden.new.items) }
+    ensures { OnOk result (ShowsOneMore (covers window.now) drawn.now shown.old.items hidden.old.items shown.new.items hidden.new.items) }
 {
     let region = left(alloc, drawn.clip, window, hidden)?;
     let adds = hides_all(drawn) && !is_empty(&region);

@@ -8,6 +8,7 @@ use Rattle.sf_compose.specs.sf_view.Stacks.{view_image}
 use Rattle.sf_compose.specs.sf_view.Views.{ViewOf}
 use Rattle.sf_compose.specs.Again.{ShowsView}
 use Rattle.sf_compose.specs.Frames.{frame_bytes}
+use Rattle.sf_compose.specs.Sources.{HasSources}
 
 -- the view that was shown last, if one was, the numbers in front of its frame, and the frame
 pub record ScreenOf : Type 0 where
@@ -30,6 +31,15 @@ HasRoom view body = IfSome view (λ view. length body ≡ 8 + 4 * (view.width * 
 -- the frame is the image of the view
 abbrev pub IsShown : (ℕ → Picture) → ScreenOf → Type 0
 IsShown picture screen = IfSome screen.view (λ view. ShowsView picture view screen.frame)
+
+-- the frame is the image of a view whose sources are found
+abbrev pub ShowsFirst : List Picture → List ℕ → ViewOf → List ℕ → Type 0
+ShowsFirst contents sources view frame = (picture : ℕ → Picture) → HasSources picture view contents sources → ShowsView picture view frame
+
+-- so it is where it was the image of an older view before
+abbrev pub ShowsOver : List Picture → List ℕ → ViewOf → ViewOf → List ℕ → List ℕ → Type 0
+ShowsOver contents sources old view before after =
+    (picture : ℕ → Picture) → HasSources picture view contents sources → ShowsView picture old before → ShowsView picture view after
 
 -- a new view has the size of the last one, whose frame is there whole
 pub record IsSameSize (frame : List ℕ) (new old : ViewOf) : Type 0 where

@@ -1,19 +1,18 @@
 //! One output's last view with its frame: the next view is composed over it, only where the two
 //! differ, with room in front for the numbers of its record.
-ghost use Rattle.std.specs.Prelude.{◌≡◌, ◌≤◌, ◌+◌, ◌*◌, ◌++◌, ℕ, ℤ, pos, true, OnErr, OnOk, IfOk, drop, length, map, take};
+ghost use Rattle.std.specs.Prelude.{◌≡◌, ◌≤◌, ◌+◌, ◌*◌, ◌++◌, ℤ, pos, true, OnErr, OnOk, IfOk, drop, length, map, take};
 ghost use Rattle.byteorder.specs.Endian.{big_bytes};
 ghost use Rattle.sf_base.specs.Geometry.{covers};
-ghost use Rattle.sf_compose.specs.Again.{ShowsView};
 ghost use Rattle.sf_compose.specs.Readings.{AreReadable};
-ghost use Rattle.sf_compose.specs.Sources.{HasSources};
-ghost use Rattle.sf_compose.specs.sf_picture.declared.picture.Picture.{Picture};
 ghost use Rattle.sf_compose.specs.sf_region.Points.{has};
-ghost use Rattle.sf_output_screen.specs.Screens.{IsSameSize, begin_of, output_of};
+ghost use Rattle.sf_output_screen.specs.Screens.{IsSameSize, ShowsFirst, ShowsOver, begin_of, output_of};
 
 use crate::engine::Engine;
 use byteorder::{BigEndian, ByteOrder};
 use sf_base::{NoMemory, Rect};
-use sf_compose::{Pixels, Region, View, compose, compose_seen_by, dirty, painted_at_most, visible};
+use sf_compose::{
+    Composition, Pixels, Region, View, compose, compose_by, dirty, painted_at_most, visible,
+};
 use sf_output::Output;
 use std::alloc::Global;
 use std::marker::Model;
@@ -73,8 +72,7 @@ fn compose_first<R: Threads + Sync, C: Pixels + Sync>(
 ) -> Result<Vec<u8>, NoMemory>
     requires readable { AreReadable (map C.picture contents.now) view.now.drawn sources.now }
     ensures room { IfOk result (λ body. length body.items ≡ 8 + 4 * (view.now.width * view.now.height)) }
-    ensures shows { IfOk result (λ body. (picture : ℕ → Picture) → HasSources picture view.now (map C.picture contents.now) sources.now
-        → ShowsView picture view.now (drop 8 body.items)) }
+    ensures shows { IfOk result (λ body. ShowsFirst (map C.picture contents.now) sources.now view.now (drop 8 body.items)) }
 {
     let size = 4 * (view.width as usize * view.height as usize);
     let mut body = vec![in engine.alloc; 0u8; ROOM + size]?;
@@ -91,55 +89,39 @@ fn compose_first<R: Threads + Sync, C: Pixels + Sync>(
     Ok(body)
 }
 
-/// Composes a view over the frame of an older one, where they differ.
-fn compose_again<R: Threads + Sync, C: Pixels + Sync>(
+/// Composes a view over the frame of an older one, where they differ. The frame lies behind room for
+/// its numbers.
+fn compose_over<'a, R: Threads + Sync, C: Pixels + Sync>(
     engine: &Engine<R>,
     old: &View,
-    view: &View,
-    contents: &[C],
-    sources: &[u32],
-    frame: &mut [u8],
-) -> Result<(), NoMemory>
-    requires same { IsSameSize frame.old view.now old.now }
-    requires readable { AreReadable (map C.picture contents.now) view.now.drawn sources.now }
-    ensures size { length frame.new ≡ length frame.old }
-    ensures shows { OnOk result ((picture : ℕ → Picture) → HasSources picture view.now (map C.picture contents.now) sources.now
-        → ShowsView picture old.now frame.old → ShowsView picture view.now frame.new) }
-    ensures err { OnErr result (frame.new ≡ frame.old) }
-{
-    let part = dirty(engine.alloc, old, view)?;
-    let shows = visible(engine.alloc, view, &part)?;
-    compose_seen_by(
-        engine.rt,
-        engine.workers.count,
-        view,
-        contents,
-        sources,
-        &shows,
-        &part,
-        frame,
-    )
-}
-
-/// The same behind room for the numbers of the frame.
-fn compose_behind<R: Threads + Sync, C: Pixels + Sync>(
-    engine: &Engine<R>,
-    old: &View,
-    view: &View,
-    contents: &[C],
-    sources: &[u32],
+    view: &'a View,
+    contents: &'a [C],
+    sources: &'a [u32],
     body: &mut [u8],
 ) -> Result<(), NoMemory>
     requires room { ROOM ≤ length body.old }
     requires same { IsSameSize (drop 8 body.old) view.now old.now }
     requires readable { AreReadable (map C.picture contents.now) view.now.drawn sources.now }
     ensures size { length body.new ≡ length body.old }
-    ensures shows { OnOk result ((picture : ℕ → Picture) → HasSources picture view.now (map C.picture contents.now) sources.now
-        → ShowsView picture old.now (drop 8 body.old) → ShowsView picture view.now (drop 8 body.new)) }
+    ensures shows { OnOk result (ShowsOver (map C.picture contents.now) sources.now old.now view.now (drop 8 body.old) (drop 8 body.new)) }
     ensures err { OnErr result (body.new ≡ body.old) }
 {
-    let frame = &mut body[ROOM..];
-    compose_again(engine, old, view, contents, sources, frame)
+    let part = dirty(engine.alloc, old, view)?;
+    let shows = visible(engine.alloc, view, &part)?;
+    let shows = Some(shows.as_slice());
+    let composition = Composition {
+        view,
+        contents,
+        sources,
+        shows,
+    };
+    compose_by(
+        engine.rt,
+        engine.workers.count,
+        &composition,
+        &part,
+        &mut body[ROOM..],
+    )
 }
 
 /// Puts two numbers in front of a frame.
@@ -241,7 +223,7 @@ impl Screen {
         match &self.view {
             Some(old) if is_composed_over(old, &view) => {
                 let body = &mut self.body;
-                compose_behind(engine, old, &view, contents, sources, body)?;
+                compose_over(engine, old, &view, contents, sources, body)?;
             }
             _ => self.body = compose_first(engine, &view, contents, sources)?,
         }

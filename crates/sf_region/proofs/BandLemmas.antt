@@ -7,7 +7,7 @@ use Rattle.std.proofs.lemmas.Bool.{cases_lt, false≢true, eqb-true, eq-eqb, and
 use Rattle.std.proofs.lemmas.Int.{ints}
 use Rattle.std.proofs.lemmas.Slice.Eq.{slice_eq-Decides}
 use Rattle.sf_base.specs.declared.geometry.Rect.{Rect}
-use Rattle.sf_region.specs.Edges.{place, left, right, top, bottom, first_place, past_all}
+use Rattle.sf_region.specs.Edges.{offset, left, right, top, bottom, first_offset, past_all}
 use Rattle.sf_region.specs.Points.{IsInBounds}
 use Rattle.sf_region.specs.Spans.{on, keeps, row, rect_of, rects_of, IsProper, AllAfter, IsSpread, AllEndBy}
 use Rattle.sf_region.specs.Canonical.{IsFull, AllFollow, IsBanded, Changes, IsCanonical}
@@ -22,8 +22,8 @@ append_nil [] = refl
 append_nil (x ∷ xs) = ap (λ z. x ∷ z) (append_nil xs)
 
 -- the rectangle of a span
-pub place_back : (n : ℕ) → place (pos n -ℤ pos 67108864) ≡ n
-place_back n = ⊎_elim
+pub offset_back : (n : ℕ) → offset (pos n -ℤ pos 67108864) ≡ n
+offset_back n = ⊎_elim
     (λ (low : n < 67108864).
     let e : pos n -ℤ pos 67108864 ≡ negsuc (67108863 - n) = omega (arith, ints, low) in
     rw e (omega (arith, low)))
@@ -34,21 +34,21 @@ place_back n = ⊎_elim
 
 pub left_is : (s : Span) (t b : ℕ) → left (rect_of s t b) ≡ s.start
 unfolding left rect_of
-left_is s t b = place_back s.start
+left_is s t b = offset_back s.start
 
 pub right_is : (s : Span) (t b : ℕ) → s.start ≤ s.end → right (rect_of s t b) ≡ s.end
 unfolding right rect_of
-right_is s t b h = rw (place_back s.start) (omega (arith, h))
+right_is s t b h = rw (offset_back s.start) (omega (arith, h))
 
 pub top_is : (s : Span) (t b : ℕ) → top (rect_of s t b) ≡ t
 unfolding top rect_of
-top_is s t b = place_back t
+top_is s t b = offset_back t
 
 pub bottom_is : (s : Span) (t b : ℕ) → t ≤ b → bottom (rect_of s t b) ≡ b
 unfolding bottom rect_of
-bottom_is s t b h = rw (place_back t) (omega (arith, h))
+bottom_is s t b h = rw (offset_back t) (omega (arith, h))
 
-near_rect : (s : Span) (t b : ℕ) → IsProper s → first_place ≤ t → t < b → b ≤ past_all → IsInBounds (rect_of s t b)
+near_rect : (s : Span) (t b : ℕ) → IsProper s → first_offset ≤ t → t < b → b ≤ past_all → IsInBounds (rect_of s t b)
 unfolding rect_of
 near_rect s t b p from h to = record {
   left = omega (arith, ints, p.from);
@@ -57,7 +57,7 @@ near_rect s t b p from h to = record {
   bottom = omega (arith, ints, h, to);
 }
 
-full_rect : (s : Span) (t b : ℕ) → IsProper s → first_place ≤ t → t < b → b ≤ past_all → IsFull (rect_of s t b)
+full_rect : (s : Span) (t b : ℕ) → IsProper s → first_offset ≤ t → t < b → b ≤ past_all → IsFull (rect_of s t b)
 full_rect s t b p from h to = record {
   near = near_rect s t b p from h to;
   wide = rw (left_is s t b, right_is s t b (omega (arith, p.some))) p.some;
@@ -84,7 +84,7 @@ follow_rects r [] t b n is_right is_top is_bottom h a = tt
 follow_rects r (s ∷ ss) t b n is_right is_top is_bottom h a =
     (inr (top_is s t b ∙ sym is_top, bottom_is s t b h ∙ sym is_bottom, omega (arith, is_right, left_is s t b, a.0)), follow_rects r ss t b n is_right is_top is_bottom h a.1)
 
-pub from_first : (ss : List Span) (t : ℕ) → first_place ≤ t → FromFirst ss t
+pub from_first : (ss : List Span) (t : ℕ) → first_offset ≤ t → FromFirst ss t
 from_first [] t h = tt
 from_first (s ∷ ss) t h = h
 
@@ -163,7 +163,7 @@ differ_new rects now next from y (s ∷ ss) e a h new = (
   differ_new rects now next from y ss e a h new,
 )
 
-pub built_turn : (rects : List Rect) (now next : List Span) (from y : ℕ) → IsBuilt rects now from → from < y → first_place ≤ y → y ≤ past_all → IsSpread next → next ≢ now
+pub built_turn : (rects : List Rect) (now next : List Span) (from y : ℕ) → IsBuilt rects now from → from < y → first_offset ≤ y → y ≤ past_all → IsSpread next → next ≢ now
     → IsBuilt (rects ++ rects_of now from y) next y
 built_turn rects now next from y so h lower upper spread new = record {
   banded = banded-append from rects (rects_of now from y) so.banded so.done (banded_rects now from y so.spread so.began h upper) (start_rects now from y);
@@ -213,12 +213,12 @@ row_beyond : (rs : List Rect) (p : ℕ) → IsBanded rs → past_all ≤ p → r
 row_beyond [] p b h = refl
 row_beyond (r ∷ rs) p b h = row_below r rs p (omega (arith, full_bottom r b.0, h)) ∙ row_beyond rs p b.2 h
 
-row_before : (rs : List Rect) (p : ℕ) → IsBanded rs → p < first_place → row rs p ≡ []
+row_before : (rs : List Rect) (p : ℕ) → IsBanded rs → p < first_offset → row rs p ≡ []
 row_before [] p b h = refl
 row_before (r ∷ rs) p b h = row_above r rs p (omega (arith, full_top r b.0, h)) ∙ row_before rs p b.2 h
 
 -- two regions, combined
-pub combined_none : (how : Combine) (first second : List Rect) → IsBanded first → IsBanded second → IsCombined how first second first second [] [] 33554431 first_place
+pub combined_none : (how : Combine) (first second : List Rect) → IsBanded first → IsBanded second → IsCombined how first second first second [] [] 33554431 first_offset
 combined_none how first second a b = record {
   ahead_first = ahead_first_row first a;
   ahead_second = ahead_first_row second b;
@@ -273,7 +273,7 @@ combined_more how all_first all_second first second later_first later_second rec
     let is : (x p : ℕ) → y ≤ p → p < later → on next x ≡ keeps how (on (row all_first p) x) (on (row all_second p) x) = λ x p from to.
     is_next x ∙ rw (is_first, is_second, ← same_first p from (omega (arith, to, is_later)), ← same_second p from (omega (arith, to, is_later)), so.same_first p from, so.same_second p from) refl in
     let upper : later ≤ past_all = omega (arith, is_later, to_first) in
-    let lower : first_place ≤ later = omega (arith, so.lower, more) in
+    let lower : first_offset ≤ later = omega (arith, so.lower, more) in
     let rest_first : (p : ℕ) → later ≤ p → row later_first p ≡ row all_first p = λ p h. later_f p h ∙ so.same_first p (omega (arith, more, h)) in
     let rest_second : (p : ℕ) → later ≤ p → row later_second p ≡ row all_second p = λ p h. later_s p h ∙ so.same_second p (omega (arith, more, h)) in
     ⊎_elim

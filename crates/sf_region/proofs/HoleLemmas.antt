@@ -4,7 +4,7 @@ use Rattle.std.specs.Prelude.{◌&&◌, ◌||◌, not, nat_le, nat_lt, min, max,
 use Rattle.std.proofs.lemmas.Bool.{le-ltb, lt-ltb, or_from, cases_lt, false≢true}
 use Rattle.std.proofs.lemmas.Bool.Decides.{nat_tests}
 use Rattle.sf_base.specs.declared.geometry.Rect.{Rect}
-use Rattle.sf_region.specs.Edges.{left, right, top, bottom, first_place, past_all}
+use Rattle.sf_region.specs.Edges.{left, right, top, bottom, first_offset, past_all}
 use Rattle.sf_region.specs.Spans.{on, row, rect_of, rects_of, span_between, IsSpread}
 use Rattle.sf_region.specs.Canonical.{IsCanonical, IsFull}
 use Rattle.sf_region.specs.inner.Bands.{AreMet, IsBuilt, band_between}
@@ -17,7 +17,7 @@ no_rects : (xs : List Rect) → xs ++ [] ≡ xs
 no_rects [] = refl
 no_rects (x ∷ xs) = ap (λ z. x ∷ z) (no_rects xs)
 
--- spans between places
+-- spans between offsets
 
 on_between : (a b x : ℕ) → on (span_between a b) x ≡ (nat_le a x && nat_lt x b)
 on_between a b x = ⊎_elim
@@ -28,7 +28,7 @@ on_between a b x = ⊎_elim
     (cases_lt x a)))
     (cases_lt a b)
 
-spread_between : (a b : ℕ) → first_place ≤ a → b ≤ past_all → IsSpread (span_between a b)
+spread_between : (a b : ℕ) → first_offset ≤ a → b ≤ past_all → IsSpread (span_between a b)
 spread_between a b from to = ⊎_elim
     (λ (some : a < b). rw (lt-ltb a b some) (record { from = from; some = some; to = to }, tt, tt))
     (λ (none : b ≤ a). rw (le-ltb a b none) tt)
@@ -42,7 +42,7 @@ on_sides : (l s e r x : ℕ) → on (sides l s e r) x ≡ ((nat_le l x && nat_lt
 unfolding sides
 on_sides l s e r x = on-append (span_between l s) (span_between e r) x ∙ rw (on_between l s x, on_between e r x) refl
 
-spread_sides : (l s e r : ℕ) → first_place ≤ l → l ≤ s → s < e → e ≤ r → r ≤ past_all → IsSpread (sides l s e r)
+spread_sides : (l s e r : ℕ) → first_offset ≤ l → l ≤ s → s < e → e ≤ r → r ≤ past_all → IsSpread (sides l s e r)
 unfolding sides
 spread_sides l s e r from low gap high to = ⊎_elim
     (λ (some : l < s). ⊎_elim
@@ -101,7 +101,7 @@ on_one r x y = by_test (nat_le (top r) y && nat_lt y (bottom r))
 abbrev pub left_beside : (l r t b s e u d : ℕ) → List Rect
 left_beside l r t b s e u d = ((band_between (span_between l r) t u ++ band_between (span_between l s) u d) ++ band_between (span_between e r) u d) ++ band_between (span_between l r) d b
 
-built_open : (now : List Span) (from : ℕ) → IsSpread now → first_place ≤ from → IsBuilt [] now from
+built_open : (now : List Span) (from : ℕ) → IsSpread now → first_offset ≤ from → IsBuilt [] now from
 built_open now from spread h = record { banded = tt; done = tt; spread = spread; began = from_first now from h; differ = tt }
 
 middle : (l s e r u d : ℕ) (above : List Rect) → u < d → (above ++ band_between (span_between l s) u d) ++ band_between (span_between e r) u d ≡ above ++ rects_of (sides l s e r) u d
@@ -110,7 +110,7 @@ middle l s e r u d above some =
     rw (band_some (span_between l s) u d some, band_some (span_between e r) u d some, rects_of-append (span_between l s) (span_between e r) u d)
     (append_assoc above (rects_of (span_between l s) u d) (rects_of (span_between e r) u d))
 
-left_canonical : (l r t b s e u d : ℕ) → first_place ≤ l → l ≤ s → s < e → e ≤ r → r ≤ past_all → first_place ≤ t → t ≤ u → u < d → d ≤ b → b ≤ past_all → IsCanonical (left_beside l r t b s e u d)
+left_canonical : (l r t b s e u d : ℕ) → first_offset ≤ l → l ≤ s → s < e → e ≤ r → r ≤ past_all → first_offset ≤ t → t ≤ u → u < d → d ≤ b → b ≤ past_all → IsCanonical (left_beside l r t b s e u d)
 left_canonical l r t b s e u d from low gap high to first upper some lower last =
     let whole : List Span = span_between l r in
     let beside : List Span = sides l s e r in
@@ -128,7 +128,7 @@ left_canonical l r t b s e u d from low gap high to first upper some lower last 
     (λ (none : b ≤ d). rw (band_none whole d b none, no_rects (above ++ rects_of beside u d)) (built_all above beside u d built some (omega (arith, lower, last))))
     (cases_lt d b))
 
-on_left : (l r t b s e u d x y : ℕ) → first_place ≤ l → s ≤ past_all → first_place ≤ e → r ≤ past_all → on (row (left_beside l r t b s e u d) y) x
+on_left : (l r t b s e u d x y : ℕ) → first_offset ≤ l → s ≤ past_all → first_offset ≤ e → r ≤ past_all → on (row (left_beside l r t b s e u d) y) x
     ≡ (((((nat_le t y && nat_lt y u) && (nat_le l x && nat_lt x r)) || ((nat_le u y && nat_lt y d) && (nat_le l x && nat_lt x s))) || ((nat_le u y && nat_lt y d) && (nat_le e x && nat_lt x r))) || ((nat_le d y && nat_lt y b) && (nat_le l x && nat_lt x r)))
 on_left l r t b s e u d x y from a c to =
     let w = span_between l r in

@@ -6,7 +6,7 @@ use Rattle.sf_base.specs.Geometry.{covers}
 use Rattle.sf_base.specs.declared.geometry.Rect.{Rect}
 use Rattle.sf_region.specs.inner.Bands.{EndsBefore}
 use Rattle.sf_region.specs.Canonical.{AllFollow, Follows, IsBanded, IsFull}
-use Rattle.sf_region.specs.Edges.{place, left, right, top, bottom}
+use Rattle.sf_region.specs.Edges.{offset, left, right, top, bottom}
 use Rattle.sf_region.specs.Points.{IsInBounds, has}
 use Rattle.sf_region.proofs.PointLemmas.{covers_is}
 use Rattle.sf_region.proofs.SpanLemmas.{span_after, span_before}
@@ -26,10 +26,10 @@ abbrev pub AreApart : Rect → Rect → Type 0
 AreApart r q = (bottom r ≤ top q) ⊎ ((bottom q ≤ top r) ⊎ ((right r ≤ left q) ⊎ (right q ≤ left r)))
 
 record IsAt (q : Rect) (x y : ℤ) : Type 0 where
-  pub after : left q ≤ place x
-  pub before : place x < right q
-  pub below : top q ≤ place y
-  pub above : place y < bottom q
+  pub after : left q ≤ offset x
+  pub before : offset x < right q
+  pub below : top q ≤ offset y
+  pub above : offset y < bottom q
 
 at_point : (q : Rect) (x y : ℤ) → IsInBounds q → covers q x y ≡ true → IsAt q x y
 at_point q x y near h =
@@ -46,16 +46,16 @@ at_point q x y near h =
 -- then they share no point
 apart_point : (r q : Rect) (x y : ℤ) → IsInBounds r → IsInBounds q → AreApart r q → covers q x y ≡ true → covers r x y ≡ false
 apart_point r q x y near other apart h =
-    let wide : Bool = nat_le (left r) (place x) && nat_lt (place x) (right r) in
-    let tall : Bool = nat_le (top r) (place y) && nat_lt (place y) (bottom r) in
+    let wide : Bool = nat_le (left r) (offset x) && nat_lt (offset x) (right r) in
+    let tall : Bool = nat_le (top r) (offset y) && nat_lt (offset y) (bottom r) in
     let at : IsAt q x y = at_point q x y other h in
     covers_is r x y near ∙ elim apart [
-      | inl over ↦ and_right wide tall (span_after (top r) (bottom r) (place y) (omega (arith, over, at.below)))
+      | inl over ↦ and_right wide tall (span_after (top r) (bottom r) (offset y) (omega (arith, over, at.below)))
       | inr rest ↦ elim rest [
-        | inl under ↦ and_right wide tall (span_before (top r) (bottom r) (place y) (omega (arith, under, at.above)))
+        | inl under ↦ and_right wide tall (span_before (top r) (bottom r) (offset y) (omega (arith, under, at.above)))
         | inr beside ↦ elim beside [
-          | inl west ↦ and_left wide tall (span_after (left r) (right r) (place x) (omega (arith, west, at.after)))
-          | inr east ↦ and_left wide tall (span_before (left r) (right r) (place x) (omega (arith, east, at.before)))
+          | inl west ↦ and_left wide tall (span_after (left r) (right r) (offset x) (omega (arith, west, at.after)))
+          | inr east ↦ and_left wide tall (span_before (left r) (right r) (offset x) (omega (arith, east, at.before)))
         ]
       ]
     ]

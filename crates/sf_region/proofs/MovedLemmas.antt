@@ -6,7 +6,7 @@ use Rattle.std.proofs.lemmas.Bool.{cases_lt, and_from, and_parts, or_left, or_ri
 use Rattle.std.proofs.lemmas.Int.{ints, by_lt_z}
 use Rattle.std.proofs.lemmas.List.{take_more}
 use Rattle.sf_base.specs.declared.geometry.Rect.{Rect}
-use Rattle.sf_region.specs.Edges.{place, left, right, top, bottom}
+use Rattle.sf_region.specs.Edges.{offset, left, right, top, bottom}
 use Rattle.sf_base.specs.Geometry.{covers}
 use Rattle.sf_region.specs.Points.{has, moved, IsInBounds, StaysInBounds, neg_far}
 use Rattle.sf_region.specs.Spans.{row}
@@ -25,9 +25,9 @@ abbrev pub below : ℤ → ℕ
 below (pos n) = 0
 below (negsuc n) = suc n
 
-moved_place : (z d : ℤ) → neg_far ≤ℤ z → neg_far ≤ℤ (z +ℤ d) → place (z +ℤ d) + below d ≡ place z + above d
-moved_place (pos m) (pos k) h g = omega (arith, ints, h, g)
-moved_place (pos m) (negsuc k) h g = ⊎_elim
+moved_offset : (z d : ℤ) → neg_far ≤ℤ z → neg_far ≤ℤ (z +ℤ d) → offset (z +ℤ d) + below d ≡ offset z + above d
+moved_offset (pos m) (pos k) h g = omega (arith, ints, h, g)
+moved_offset (pos m) (negsuc k) h g = ⊎_elim
     (λ (low : m < suc k).
     let e : pos m +ℤ negsuc k ≡ negsuc (k - m) = omega (arith, ints, low) in
     let near : neg_far ≤ℤ negsuc (k - m) = subst (λ z. neg_far ≤ℤ z) e g in
@@ -36,7 +36,7 @@ moved_place (pos m) (negsuc k) h g = ⊎_elim
     let e : pos m +ℤ negsuc k ≡ pos (m - suc k) = omega (arith, ints, high) in
     rw e (omega (arith, high)))
     (cases_lt m (suc k))
-moved_place (negsuc m) (pos k) h g = ⊎_elim
+moved_offset (negsuc m) (pos k) h g = ⊎_elim
     (λ (low : k < suc m).
     let e : negsuc m +ℤ pos k ≡ negsuc (m - k) = omega (arith, ints, low) in
     rw e (omega (arith, ints, h, low)))
@@ -44,7 +44,7 @@ moved_place (negsuc m) (pos k) h g = ⊎_elim
     let e : negsuc m +ℤ pos k ≡ pos (k - suc m) = omega (arith, ints, high) in
     rw e (omega (arith, ints, h, high)))
     (cases_lt k (suc m))
-moved_place (negsuc m) (negsuc k) h g = omega (arith, ints, h, g)
+moved_offset (negsuc m) (negsuc k) h g = omega (arith, ints, h, g)
 
 -- the edges of a rectangle and of the moved one
 record MovedEdges (mx nx my ny : ℕ) (r q : Rect) : Type 0 where
@@ -56,8 +56,8 @@ record MovedEdges (mx nx my ny : ℕ) (r q : Rect) : Type 0 where
 edges_of : (dx dy : ℤ) (r : Rect) → IsInBounds r → IsInBounds (moved dx dy r) → MovedEdges (below dx) (above dx) (below dy) (above dy) r (moved dx dy r)
 unfolding left right top bottom moved
 edges_of dx dy r a b =
-    let across : place (r.x +ℤ dx) + below dx ≡ place r.x + above dx = moved_place r.x dx a.left b.left in
-    let down : place (r.y +ℤ dy) + below dy ≡ place r.y + above dy = moved_place r.y dy a.top b.top in
+    let across : offset (r.x +ℤ dx) + below dx ≡ offset r.x + above dx = moved_offset r.x dx a.left b.left in
+    let down : offset (r.y +ℤ dy) + below dy ≡ offset r.y + above dy = moved_offset r.y dy a.top b.top in
     record { left = across; right = omega (arith, across); top = down; bottom = omega (arith, down) }
 
 -- each rectangle is near when it is moved

@@ -4,7 +4,7 @@ use Rattle.std.specs.Prelude.{ℤ, pos, negsuc, ◌+ℤ◌, ◌≤ℤ◌, length
 use Rattle.std.proofs.lemmas.Bool.{cases_lt}
 use Rattle.std.proofs.lemmas.Int.{ints}
 use Rattle.sf_base.specs.declared.geometry.Rect.{Rect}
-use Rattle.sf_region.specs.Edges.{place, left, right, top, bottom, first_place, past_all}
+use Rattle.sf_region.specs.Edges.{offset, left, right, top, bottom, first_offset, past_all}
 use Rattle.sf_region.specs.Points.{far, neg_far}
 use Rattle.sf_region.specs.Spans.{row, AllAfter, IsSpread, AllEndBelow, AllEndBy}
 use Rattle.sf_region.specs.Canonical.{IsFull, AllFollow, IsBanded}
@@ -64,29 +64,29 @@ same_band r rs p q b p0 p1 q0 q1 =
     row_in r rs p p0 p1 ∙ (ap (λ z. record { start = left r; end = right r } ∷ z) (same_following r rs p q b.1 p0 p1 q0 q1) ∙ sym (row_in r rs q q0 q1))
 
 -- edges of near rectangles
-place_low : (z : ℤ) → neg_far ≤ℤ z → first_place ≤ place z
-place_low (pos n) h = omega (arith, ints)
-place_low (negsuc n) h = omega (arith, ints, h)
+offset_low : (z : ℤ) → neg_far ≤ℤ z → first_offset ≤ offset z
+offset_low (pos n) h = omega (arith, ints)
+offset_low (negsuc n) h = omega (arith, ints, h)
 
-place_high : (z : ℤ) (n : ℕ) → neg_far ≤ℤ z → (z +ℤ pos n) ≤ℤ far → place z + n ≤ past_all
-place_high (pos m) n h g = omega (arith, ints, h, g)
-place_high (negsuc m) n h g = omega (arith, ints, h, g)
+offset_high : (z : ℤ) (n : ℕ) → neg_far ≤ℤ z → (z +ℤ pos n) ≤ℤ far → offset z + n ≤ past_all
+offset_high (pos m) n h g = omega (arith, ints, h, g)
+offset_high (negsuc m) n h g = omega (arith, ints, h, g)
 
-pub full_left : (r : Rect) → IsFull r → first_place ≤ left r
+pub full_left : (r : Rect) → IsFull r → first_offset ≤ left r
 unfolding left
-full_left r f = place_low r.x f.near.left
+full_left r f = offset_low r.x f.near.left
 
 pub full_right : (r : Rect) → IsFull r → right r ≤ past_all
 unfolding right
-full_right r f = place_high r.x r.width f.near.left f.near.right
+full_right r f = offset_high r.x r.width f.near.left f.near.right
 
-pub full_top : (r : Rect) → IsFull r → first_place ≤ top r
+pub full_top : (r : Rect) → IsFull r → first_offset ≤ top r
 unfolding top
-full_top r f = place_low r.y f.near.top
+full_top r f = offset_low r.y f.near.top
 
 pub full_bottom : (r : Rect) → IsFull r → bottom r ≤ past_all
 unfolding bottom
-full_bottom r f = place_high r.y r.height f.near.top f.near.bottom
+full_bottom r f = offset_high r.y r.height f.near.top f.near.bottom
 
 -- the row of bands is spread
 pub after_row : (r : Rect) (rs : List Rect) (p : ℕ) → AllFollow r rs → p < bottom r → AllAfter (right r) (row rs p)
@@ -125,9 +125,9 @@ ends_following r (q ∷ qs) y a b h = (
 pub ahead_rows : (r : Rect) (rs : List Rect) (y : ℕ) → IsBanded (r ∷ rs) → y < bottom r → IsAheadRows (r ∷ rs) y
 ahead_rows r rs y b h = record { banded = b; ends = (h, ends_following r rs y b.1 b.2 h) }
 
-pub ahead_first_row : (rs : List Rect) → IsBanded rs → IsAheadRows rs first_place
+pub ahead_first_row : (rs : List Rect) → IsBanded rs → IsAheadRows rs first_offset
 ahead_first_row [] b = record { banded = b; ends = tt }
-ahead_first_row (r ∷ rs) b = ahead_rows r rs first_place b (omega (arith, full_top r b.0, b.0.high))
+ahead_first_row (r ∷ rs) b = ahead_rows r rs first_offset b (omega (arith, full_top r b.0, b.0.high))
 
 pub ahead_by : (rs : List Rect) (y : ℕ) (d : Rect) → 1 ≤ length rs → IsBanded rs → y < bottom (slice_index_or rs 0 d) → IsAheadRows rs y
 ahead_by [] y d h b g = absurd (omega (arith, h))

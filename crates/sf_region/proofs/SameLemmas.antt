@@ -10,14 +10,14 @@ use Rattle.std.proofs.lemmas.Slice.Eq.{slice_eq-Decides}
 use Rattle.std.proofs.lemmas.Int.{ints}
 use Rattle.sf_base.proofs.Decisions.{rect_decides}
 use Rattle.sf_base.specs.declared.geometry.Rect.{Rect}
-use Rattle.sf_region.specs.Edges.{place, left, right, top, bottom}
+use Rattle.sf_region.specs.Edges.{offset, left, right, top, bottom}
 use Rattle.sf_region.specs.Points.{has, IsInBounds, neg_far}
 use Rattle.sf_region.specs.Spans.{on, row, IsSpread}
 use Rattle.sf_region.specs.Canonical.{IsFull, AllFollow, IsBanded, Changes, IsCanonical}
 use Rattle.sf_region.specs.declared.spans.Span.{Span}
 use Rattle.sf_region.proofs.SpanLemmas.{span_in, span_before, span_after, on_after, on_dropped}
 use Rattle.sf_region.proofs.RowLemmas.{row_in, row_above, row_below, row_over, spread_row}
-use Rattle.sf_region.proofs.BandLemmas.{span_same, place_back, no_span}
+use Rattle.sf_region.proofs.BandLemmas.{span_same, offset_back, no_span}
 use Rattle.sf_region.proofs.PointLemmas.{has_is}
 
 -- spans
@@ -104,11 +104,11 @@ each_apart [] b = tt
 each_apart (r ∷ rs) b = ((inr (inr (refl, refl)), apart_follow r rs b.1), apart_more r rs rs b.1 (each_apart rs b.2))
 
 -- a rectangle is told by its edges
-place_same : (x y : ℤ) → neg_far ≤ℤ x → neg_far ≤ℤ y → place x ≡ place y → x ≡ y
-place_same (pos m) (pos n) h g e = let is : m ≡ n = omega (arith, e) in ap pos is
-place_same (pos m) (negsuc n) h g e = absurd (omega (arith, ints, h, g, e))
-place_same (negsuc m) (pos n) h g e = absurd (omega (arith, ints, h, g, e))
-place_same (negsuc m) (negsuc n) h g e = let is : m ≡ n = omega (arith, ints, h, g, e) in ap negsuc is
+offset_same : (x y : ℤ) → neg_far ≤ℤ x → neg_far ≤ℤ y → offset x ≡ offset y → x ≡ y
+offset_same (pos m) (pos n) h g e = let is : m ≡ n = omega (arith, e) in ap pos is
+offset_same (pos m) (negsuc n) h g e = absurd (omega (arith, ints, h, g, e))
+offset_same (negsuc m) (pos n) h g e = absurd (omega (arith, ints, h, g, e))
+offset_same (negsuc m) (negsuc n) h g e = let is : m ≡ n = omega (arith, ints, h, g, e) in ap negsuc is
 
 pub rect_by : (r q : Rect) → r.x ≡ q.x → r.y ≡ q.y → r.width ≡ q.width → r.height ≡ q.height → r ≡ q
 rect_by r q a b c d =
@@ -116,7 +116,7 @@ rect_by r q a b c d =
 
 same_rect : (r q : Rect) → IsInBounds r → IsInBounds q → left r ≡ left q → right r ≡ right q → top r ≡ top q → bottom r ≡ bottom q → r ≡ q
 unfolding left right top bottom
-same_rect r q a b l rr t bb = rect_by r q (place_same r.x q.x a.left b.left l) (place_same r.y q.y a.top b.top t) (omega (arith, l, rr)) (omega (arith, t, bb))
+same_rect r q a b l rr t bb = rect_by r q (offset_same r.x q.x a.left b.left l) (offset_same r.y q.y a.top b.top t) (omega (arith, l, rr)) (omega (arith, t, bb))
 
 -- the first rectangles
 top_le : (r q : Rect) (rs qs : List Rect) → IsBanded (r ∷ rs) → IsBanded (q ∷ qs) → ((y : ℕ) → row (r ∷ rs) y ≡ row (q ∷ qs) y) → top r ≤ top q
@@ -178,8 +178,8 @@ same_region rs qs a b is =
     let at : (x y : ℕ) → on (row rs y) x ≡ on (row qs y) x = λ x y.
     let zx : ℤ = pos x -ℤ pos 67108864 in
     let zy : ℤ = pos y -ℤ pos 67108864 in
-    let one : has rs zx zy ≡ on (row rs y) x = has_is rs zx zy a.banded ∙ rw (place_back x, place_back y) refl in
-    let two : has qs zx zy ≡ on (row qs y) x = has_is qs zx zy b.banded ∙ rw (place_back x, place_back y) refl in
+    let one : has rs zx zy ≡ on (row rs y) x = has_is rs zx zy a.banded ∙ rw (offset_back x, offset_back y) refl in
+    let two : has qs zx zy ≡ on (row qs y) x = has_is qs zx zy b.banded ∙ rw (offset_back x, offset_back y) refl in
     sym one ∙ (is zx zy ∙ two) in
     let rows : (y : ℕ) → row rs y ≡ row qs y = λ y. same_spans (row rs y) (row qs y) (spread_row rs y a.banded) (spread_row qs y b.banded) (λ x. at x y) in
     same_lists rs qs rs qs rows (each_apart rs a.banded) (each_apart qs b.banded) a.banded b.banded a.changes b.changes rows

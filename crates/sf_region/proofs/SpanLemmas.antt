@@ -2,7 +2,7 @@
 use Rattle.std.proofs.Common.{◌≡◌, ℕ, ◌+◌, ◌<◌, ◌≤◌, List, [], ◌∷◌, ◌++◌, refl, sym, ◌∙◌, arith, ⊎_elim, Bool, true, false}
 use Rattle.std.specs.Prelude.{◌&&◌, ◌||◌, nat_le, nat_lt, min, Option, Some, None, length, slice_index_or}
 use Rattle.std.proofs.lemmas.Bool.{lt-leb, le-leb, le-ltb, lt-ltb, and_left, and_right, and_from, or_from, or_left, or_right, cases_lt}
-use Rattle.sf_region.specs.Edges.{first_place, past_all}
+use Rattle.sf_region.specs.Edges.{first_offset, past_all}
 use Rattle.sf_region.specs.Spans.{on, keeps, IsProper, AllAfter, AllBefore, IsSpread, IsAhead, closed, next_open, next_done, BeganBetween, IsSwept}
 use Rattle.sf_region.specs.declared.spans.Span.{Span}
 use Rattle.sf_region.specs.declared.combine.Combine.{Combine}
@@ -36,7 +36,7 @@ pub on_before : (n : ℕ) (ss : List Span) (p : ℕ) → AllBefore n ss → n �
 on_before n [] p a h = refl
 on_before n (s ∷ ss) p a h = or_from _ _ (span_after s.start s.end p (omega (arith, a.0, h))) (on_before n ss p a.1 h)
 
-pub on_first : (ss : List Span) (p : ℕ) → IsSpread ss → p < first_place → on ss p ≡ false
+pub on_first : (ss : List Span) (p : ℕ) → IsSpread ss → p < first_offset → on ss p ≡ false
 on_first [] p a h = refl
 on_first (s ∷ ss) p a h = or_from _ _ (span_before s.start s.end p (omega (arith, a.0.from, h))) (on_first ss p a.2 h)
 
@@ -72,7 +72,7 @@ pub spread_snoc : (ss : List Span) (t : Span) → IsSpread ss → AllBefore t.st
 spread_snoc [] t a b h = (h, tt, tt)
 spread_snoc (s ∷ ss) t a b h = (a.0, all_after_snoc s.end ss t a.1 b.0, spread_snoc ss t a.2 b.1 h)
 
--- the first span tells of the places before its end
+-- the first span tells of the offsets before its end
 pub inside_is : (s : Span) (ss : List Span) (x : ℕ) → IsSpread (s ∷ ss) → x < s.end → on (s ∷ ss) x ≡ nat_le s.start x
 inside_is s ss x a h = ⊎_elim
     (λ (low : x < s.start). or_from _ _ (span_before s.start s.end x low) (on_after s.end ss x a.1 (omega (arith, h))) ∙ sym (lt-leb s.start x low))
@@ -95,7 +95,7 @@ same_within s ss x p a h from to =
 pub on_dropped : (s : Span) (ss : List Span) (x p : ℕ) → s.end ≤ x → x ≤ p → on ss p ≡ on (s ∷ ss) p
 on_dropped s ss x p h from = rw (span_after s.start s.end p (omega (arith, h, from))) refl
 
-pub ahead_first : (ss : List Span) → IsSpread ss → IsAhead ss first_place
+pub ahead_first : (ss : List Span) → IsSpread ss → IsAhead ss first_offset
 ahead_first [] a = record { spread = a; ends = tt }
 ahead_first (s ∷ ss) a = record { spread = a; ends = omega (arith, a.0.from, a.0.some) }
 
@@ -125,7 +125,7 @@ done_spread out began true x a b to = a
 done_spread out None false x a b to = a
 done_spread out (Some s) false x a b to = spread_snoc out _ a b.0 (record { from = b.1; some = b.2; to = to })
 
-pub next_between : (out : List Span) (began : Option ℕ) (inside : Bool) (x next : ℕ) → BeganBetween out began x → first_place ≤ x → x < next
+pub next_between : (out : List Span) (began : Option ℕ) (inside : Bool) (x next : ℕ) → BeganBetween out began x → first_offset ≤ x → x < next
     → BeganBetween (next_done out began inside x) (next_open began inside x) next
 next_between out None true x next b from h = (b, from, h)
 next_between out None false x next b from h = all_before_more x next out (omega (arith, h)) b
@@ -134,7 +134,7 @@ next_between out (Some s) false x next b from h =
     all_before_snoc next out _ (all_before_more s next out (omega (arith, b.2, h)) b.0) h
 
 pub swept_none : (how : Combine) (first second : List Span) → IsSpread first → IsSpread second
-    → IsSwept how first second first second [] None first_place
+    → IsSwept how first second first second [] None first_offset
 swept_none how first second a b = record {
   ahead_first = ahead_first first a;
   ahead_second = ahead_first second b;

@@ -3,27 +3,27 @@
 use Rattle.std.specs.Prelude.{ℕ, ℤ, pos, negsuc, ◌+◌, ◌-◌, suc}
 use Rattle.sf_base.specs.declared.geometry.Rect.{Rect}
 
--- the place of a coordinate
-abbrev pub place : ℤ → ℕ
-place (pos n) = n + 67108864
-place (negsuc n) = 67108864 - suc n
+-- the offset of a coordinate
+abbrev pub offset : ℤ → ℕ
+offset (pos n) = n + 67108864
+offset (negsuc n) = 67108864 - suc n
 
 unfoldable pub left : Rect → ℕ
-left r = place r.x
+left r = offset r.x
 
 unfoldable pub right : Rect → ℕ
-right r = place r.x + r.width
+right r = offset r.x + r.width
 
 unfoldable pub top : Rect → ℕ
-top r = place r.y
+top r = offset r.y
 
 unfoldable pub bottom : Rect → ℕ
-bottom r = place r.y + r.height
+bottom r = offset r.y + r.height
 
--- the least place of an edge
-abbrev pub first_place : ℕ
-first_place = 33554432
+-- the least offset of an edge
+abbrev pub first_offset : ℕ
+first_offset = 33554432
 
--- the greatest place of an edge
+-- the greatest offset of an edge
 abbrev pub past_all : ℕ
 past_all = 100663296

@@ -2,7 +2,7 @@
 use Rattle.std.specs.Prelude.{ℕ, pos, ◌-◌, ◌-ℤ◌, ◌<◌, ◌≤◌, ◌≡◌, Bool, true, false, not, ◌&&◌}
 use Rattle.std.specs.Prelude.{◌||◌, if◌then◌else◌, nat_le, nat_lt, List, [], ◌∷◌, ◌++◌, Option, Some, None}
 use Rattle.sf_base.specs.declared.geometry.Rect.{Rect}
-use Rattle.sf_region.specs.Edges.{left, right, top, bottom, first_place, past_all}
+use Rattle.sf_region.specs.Edges.{left, right, top, bottom, first_offset, past_all}
 use Rattle.sf_region.specs.declared.spans.Span.{Span}
 use Rattle.sf_region.specs.declared.combine.Combine.{Combine}
 use Rattle.sf_region.specs.declared.combine.Combine.TheVariants.{Union, Intersect, Subtract}
@@ -13,27 +13,27 @@ keeps Union a b = a || b
 keeps Intersect a b = a && b
 keeps Subtract a b = a && not b
 
--- whether a place is in one of the spans
+-- whether an offset is in one of the spans
 abbrev pub on : List Span → ℕ → Bool
 on [] x = false
 on (s ∷ ss) x = (nat_le s.start x && nat_lt x s.end) || on ss x
 
--- a span from one place up to another, if there is a place between them
+-- a span from one offset up to another, if there is an offset between them
 abbrev pub span_between : ℕ → ℕ → List Span
 span_between from to = if nat_lt from to then record { start = from; end = to } ∷ [] else []
 
--- a span with a place in it, within the bounds of places
+-- a span with an offset in it, within the bounds of offsets
 pub record IsProper (s : Span) : Type 0 where
-  pub from : first_place ≤ s.start
+  pub from : first_offset ≤ s.start
   pub some : s.start < s.end
   pub to : s.end ≤ past_all
 
--- each span starts after a place
+-- each span starts after an offset
 abbrev pub AllAfter : ℕ → List Span → Type 0
 AllAfter n [] = Unit {0}
 AllAfter n (s ∷ ss) = (n < s.start) × AllAfter n ss
 
--- each span ends before a place
+-- each span ends before an offset
 abbrev pub AllBefore : ℕ → List Span → Type 0
 AllBefore n [] = Unit {0}
 AllBefore n (s ∷ ss) = (s.end < n) × AllBefore n ss
@@ -43,12 +43,12 @@ abbrev pub IsSpread : List Span → Type 0
 IsSpread [] = Unit {0}
 IsSpread (s ∷ ss) = IsProper s × AllAfter s.end ss × IsSpread ss
 
--- the first span ends after a place
+-- the first span ends after an offset
 abbrev pub EndsAfter : ℕ → List Span → Type 0
 EndsAfter n [] = Unit {0}
 EndsAfter n (s ∷ ss) = n < s.end
 
--- spans of which the first ends after a place
+-- spans of which the first ends after an offset
 pub record IsAhead (ss : List Span) (x : ℕ) : Type 0 where
   pub spread : IsSpread ss
   pub ends : EndsAfter x ss
@@ -69,16 +69,16 @@ abbrev pub next_done : List Span → Option ℕ → Bool → ℕ → List Span
 next_done out began true x = out
 next_done out began false x = closed out began x
 
--- the span that is drawn began after the spans that are done, and before a place
+-- the span that is drawn began after the spans that are done, and before an offset
 abbrev pub BeganBetween : List Span → Option ℕ → ℕ → Type 0
 BeganBetween out None x = AllBefore x out
-BeganBetween out (Some s) x = AllBefore s out × (first_place ≤ s) × (s < x)
+BeganBetween out (Some s) x = AllBefore s out × (first_offset ≤ s) × (s < x)
 
--- a row is combined up to a place: `first` and `second` are what is left of the two spans
+-- a row is combined up to an offset: `first` and `second` are what is left of the two spans
 pub record IsSwept (how : Combine) (all_first all_second first second : List Span) (done : List Span) (began : Option ℕ) (x : ℕ) : Type 0 where
   pub ahead_first : IsAhead first x
   pub ahead_second : IsAhead second x
-  pub from : first_place ≤ x
+  pub from : first_offset ≤ x
   pub to : x ≤ past_all
   pub same_first : (p : ℕ) → x ≤ p → on first p ≡ on all_first p
   pub same_second : (p : ℕ) → x ≤ p → on second p ≡ on all_second p

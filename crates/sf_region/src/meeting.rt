@@ -23,7 +23,7 @@ fn ends_before(rect: &Rect, low: u32, column: u32) -> bool
     }
 }
 
-/// The place of the first rectangle, from one on, that does not end there: those before it end earlier.
+/// The index of the first rectangle, from one on, that does not end there: those before it end earlier.
 fn past(rects: &[Rect], from: usize, low: u32, column: u32) -> usize
     requires banded { IsBanded rects.now }
     requires within { from ≤ length rects.now }
@@ -43,7 +43,7 @@ fn past(rects: &[Rect], from: usize, low: u32, column: u32) -> usize
     first
 }
 
-/// The place of a rectangle where it shares a point with another one, and else a later place: none of
+/// The index of a rectangle where it shares a point with another one, and else a later index: none of
 /// the rectangles between shares a point with that one.
 fn step(rects: &[Rect], at: usize, rect: &Rect) -> usize
     requires banded { IsBanded rects.now }
@@ -70,7 +70,7 @@ fn step(rects: &[Rect], at: usize, rect: &Rect) -> usize
     }
 }
 
-/// The place of the first rectangle of bands, from one on, that shares a point with another one, or how
+/// The index of the first rectangle of bands, from one on, that shares a point with another one, or how
 /// many there are.
 pub fn next_meeting(rects: &[Rect], from: usize, rect: &Rect) -> usize
     requires banded { IsBanded rects.now }

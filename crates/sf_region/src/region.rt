@@ -127,7 +127,7 @@ impl Region {
         self.rects.as_slice() == other.rects.as_slice()
     }
 
-    /// The place of the first rectangle, from one on, that shares a point with another one, or how many
+    /// The index of the first rectangle, from one on, that shares a point with another one, or how many
     /// there are. It takes steps as often as the rectangles can be halved, for each band that the other
     /// one meets. Takes no memory.
     pub fn next_meeting(&self, from: usize, rect: &Rect) -> usize

@@ -6,13 +6,13 @@ ghost use Rattle.sf_region.specs.Spans.{on, keeps, IsSpread, IsAhead, next_done,
 use crate::combine::Combine;
 use sf_base::NoMemory;
 
-/// The least place of an edge.
+/// The least offset of an edge.
 pub const FIRST_PLACE: u32 = 33554432;
 
-/// The greatest place of an edge.
+/// The greatest offset of an edge.
 pub const PAST_ALL: u32 = 100663296;
 
-/// The places of a row from `start` up to, and without, `end`.
+/// The offsets of a row from `start` up to, and without, `end`.
 #[derive(Clone, Copy, PartialEq, Eq)]
 pub struct Span {
     pub start: u32,
@@ -69,7 +69,7 @@ fn turn(
     }
 }
 
-/// Whether a place is in one of the spans, of which the first ends after it.
+/// Whether an offset is in one of the spans, of which the first ends after it.
 fn is_inside(spans: &[Span], x: u32) -> bool
     requires { IsAhead spans.now x }
     ensures { result ≡ on spans.now x }
@@ -80,7 +80,7 @@ fn is_inside(spans: &[Span], x: u32) -> bool
     }
 }
 
-/// The next place where the spans change, of which the first ends after this one.
+/// The next offset where the spans change, of which the first ends after this one.
 fn next_edge(spans: &[Span], x: u32) -> u32
     requires ahead { IsAhead spans.now x }
     requires within { x < past_all }
@@ -100,7 +100,7 @@ fn next_edge(spans: &[Span], x: u32) -> u32
     }
 }
 
-/// The spans without those that end at a place or before it.
+/// The spans without those that end at an offset or before it.
 fn past(spans: &[Span], x: u32) -> &[Span]
     requires { IsSpread spans.now }
     ensures ahead { IsAhead result.now x }

@@ -73,8 +73,8 @@ pub made_even : (even odd : List ℕ) → length even ≡ 8 → length odd ≡ 8
     → slice_index (digits_l 256 16 (number_l 65536 (made even odd))) (2 * j) ≡ slice_index even j
 made_even even odd long_e long_o small_e small_o j h =
     let at = made_at even odd long_e long_o small_e small_o j h in
-    let place : 2 * j + 0 ≡ 2 * j = omega arith in
-    subst (λ i. slice_index (digits_l 256 16 (number_l 65536 (made even odd))) i ≡ slice_index even j) place
+    let index : 2 * j + 0 ≡ 2 * j = omega arith in
+    subst (λ i. slice_index (digits_l 256 16 (number_l 65536 (made even odd))) i ≡ slice_index even j) index
     (rw (get_or_narrower 65536 2 256 16 (made even odd) j 0 refl (made_small even odd) (omega arith) (omega (arith, h)), at.0) (omega (arith, at.1, at.2)))
 
 pub made_odd : (even odd : List ℕ) → length even ≡ 8 → length odd ≡ 8 → Small even → Small odd → (j : ℕ) → j < 8
@@ -92,12 +92,12 @@ scaled_of r a f ea oa long_e long_o long_f evens odds re ro k h =
     let j = k / 2 in
     ⊎_elim
     (λ (low : k % 2 < 1).
-    let place : 2 * (k / 2) ≡ k = omega (arith, low) in
-    subst (λ i. slice_index r i ≡ product (slice_index a i) (slice_index f (k / 2))) place
+    let index : 2 * (k / 2) ≡ k = omega (arith, low) in
+    subst (λ i. slice_index r i ≡ product (slice_index a i) (slice_index f (k / 2))) index
     (rw (re (k / 2) (omega (arith, h)), get_or-zip2 product ea f (k / 2) 0 0 0 (omega (arith, long_e, h)) (omega (arith, long_f, h)), evens (k / 2) (omega (arith, h))) refl))
     (λ (high : 1 ≤ k % 2).
-    let place : 2 * (k / 2) + 1 ≡ k = omega (arith, high) in
-    subst (λ i. slice_index r i ≡ product (slice_index a i) (slice_index f (k / 2))) place
+    let index : 2 * (k / 2) + 1 ≡ k = omega (arith, high) in
+    subst (λ i. slice_index r i ≡ product (slice_index a i) (slice_index f (k / 2))) index
     (rw (ro (k / 2) (omega (arith, h)), get_or-zip2 product oa f (k / 2) 0 0 0 (omega (arith, long_o, h)) (omega (arith, long_f, h)), odds (k / 2) (omega (arith, h))) refl))
     (cases_lt (k % 2) 1)
 
@@ -118,11 +118,11 @@ joined_of f r a b ea oa eb ob long_ea long_oa long_eb long_ob evens_a odds_a eve
     let half : k / 2 < 8 = omega (arith, h) in
     ⊎_elim
     (λ (low : k % 2 < 1).
-    let place : 2 * (k / 2) ≡ k = omega (arith, low) in
-    subst (λ i. slice_index r i ≡ f (slice_index a i) (slice_index b i)) place
+    let index : 2 * (k / 2) ≡ k = omega (arith, low) in
+    subst (λ i. slice_index r i ≡ f (slice_index a i) (slice_index b i)) index
     (rw (re (k / 2) half, get_or-zip2 f ea eb (k / 2) 0 0 0 (omega (arith, long_ea, h)) (omega (arith, long_eb, h)), evens_a (k / 2) half, evens_b (k / 2) half) refl))
     (λ (high : 1 ≤ k % 2).
-    let place : 2 * (k / 2) + 1 ≡ k = omega (arith, high) in
-    subst (λ i. slice_index r i ≡ f (slice_index a i) (slice_index b i)) place
+    let index : 2 * (k / 2) + 1 ≡ k = omega (arith, high) in
+    subst (λ i. slice_index r i ≡ f (slice_index a i) (slice_index b i)) index
     (rw (ro (k / 2) half, get_or-zip2 f oa ob (k / 2) 0 0 0 (omega (arith, long_oa, h)) (omega (arith, long_ob, h)), odds_a (k / 2) half, odds_b (k / 2) half) refl))
     (cases_lt (k % 2) 1)

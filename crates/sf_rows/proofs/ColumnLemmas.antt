@@ -24,11 +24,11 @@ left_byte a b i long h = get_or_append_left a b 0 i (omega (arith, long, h))
 right_byte : (a b : List ℕ) (i : ℕ) → length a ≡ 16 → 16 ≤ i → get_or (a ++ b) i 0 ≡ slice_index b (i - 16)
 right_byte a b i long h = get_or-append_right a b 16 i 0 long h
 
-abbrev first_places : List ℕ
-first_places = 0 ∷ 1 ∷ 2 ∷ 3 ∷ 16 ∷ 17 ∷ 18 ∷ 19 ∷ 4 ∷ 5 ∷ 6 ∷ 7 ∷ 20 ∷ 21 ∷ 22 ∷ 23 ∷ []
+abbrev first_indices : List ℕ
+first_indices = 0 ∷ 1 ∷ 2 ∷ 3 ∷ 16 ∷ 17 ∷ 18 ∷ 19 ∷ 4 ∷ 5 ∷ 6 ∷ 7 ∷ 20 ∷ 21 ∷ 22 ∷ 23 ∷ []
 
-abbrev last_places : List ℕ
-last_places = 8 ∷ 9 ∷ 10 ∷ 11 ∷ 24 ∷ 25 ∷ 26 ∷ 27 ∷ 12 ∷ 13 ∷ 14 ∷ 15 ∷ 28 ∷ 29 ∷ 30 ∷ 31 ∷ []
+abbrev last_indices : List ℕ
+last_indices = 8 ∷ 9 ∷ 10 ∷ 11 ∷ 24 ∷ 25 ∷ 26 ∷ 27 ∷ 12 ∷ 13 ∷ 14 ∷ 15 ∷ 28 ∷ 29 ∷ 30 ∷ 31 ∷ []
 
 module _ (a b : List ℕ) (long : length a ≡ 16) where
   l : (i : ℕ) → i < 16 → get_or (a ++ b) i 0 ≡ slice_index a i
@@ -37,25 +37,25 @@ module _ (a b : List ℕ) (long : length a ≡ 16) where
   r : (i : ℕ) → 16 ≤ i → get_or (a ++ b) i 0 ≡ slice_index b (i - 16)
   r i h = right_byte a b i long h
 
-  pub first_left : (row : ℕ) → row < 2 → pixel_in (pick_l 0 (a ++ b) first_places) (2 * row) ≡ pixel_in a row
-  first_left = below_two (λ row. pixel_in (pick_l 0 (a ++ b) first_places) (2 * row) ≡ pixel_in a row)
-      (pixel_by (pick_l 0 (a ++ b) first_places) 0 (pixel_in a 0) (l 0 (omega arith)) (l 1 (omega arith)) (l 2 (omega arith)) (l 3 (omega arith)))
-      (pixel_by (pick_l 0 (a ++ b) first_places) 2 (pixel_in a 1) (l 4 (omega arith)) (l 5 (omega arith)) (l 6 (omega arith)) (l 7 (omega arith)))
+  pub first_left : (row : ℕ) → row < 2 → pixel_in (pick_l 0 (a ++ b) first_indices) (2 * row) ≡ pixel_in a row
+  first_left = below_two (λ row. pixel_in (pick_l 0 (a ++ b) first_indices) (2 * row) ≡ pixel_in a row)
+      (pixel_by (pick_l 0 (a ++ b) first_indices) 0 (pixel_in a 0) (l 0 (omega arith)) (l 1 (omega arith)) (l 2 (omega arith)) (l 3 (omega arith)))
+      (pixel_by (pick_l 0 (a ++ b) first_indices) 2 (pixel_in a 1) (l 4 (omega arith)) (l 5 (omega arith)) (l 6 (omega arith)) (l 7 (omega arith)))
 
-  pub first_right : (row : ℕ) → row < 2 → pixel_in (pick_l 0 (a ++ b) first_places) (2 * row + 1) ≡ pixel_in b row
-  first_right = below_two (λ row. pixel_in (pick_l 0 (a ++ b) first_places) (2 * row + 1) ≡ pixel_in b row)
-      (pixel_by (pick_l 0 (a ++ b) first_places) 1 (pixel_in b 0) (r 16 (omega arith)) (r 17 (omega arith)) (r 18 (omega arith)) (r 19 (omega arith)))
-      (pixel_by (pick_l 0 (a ++ b) first_places) 3 (pixel_in b 1) (r 20 (omega arith)) (r 21 (omega arith)) (r 22 (omega arith)) (r 23 (omega arith)))
+  pub first_right : (row : ℕ) → row < 2 → pixel_in (pick_l 0 (a ++ b) first_indices) (2 * row + 1) ≡ pixel_in b row
+  first_right = below_two (λ row. pixel_in (pick_l 0 (a ++ b) first_indices) (2 * row + 1) ≡ pixel_in b row)
+      (pixel_by (pick_l 0 (a ++ b) first_indices) 1 (pixel_in b 0) (r 16 (omega arith)) (r 17 (omega arith)) (r 18 (omega arith)) (r 19 (omega arith)))
+      (pixel_by (pick_l 0 (a ++ b) first_indices) 3 (pixel_in b 1) (r 20 (omega arith)) (r 21 (omega arith)) (r 22 (omega arith)) (r 23 (omega arith)))
 
-  pub last_left : (row : ℕ) → row < 2 → pixel_in (pick_l 0 (a ++ b) last_places) (2 * row) ≡ pixel_in a (2 + row)
-  last_left = below_two (λ row. pixel_in (pick_l 0 (a ++ b) last_places) (2 * row) ≡ pixel_in a (2 + row))
-      (pixel_by (pick_l 0 (a ++ b) last_places) 0 (pixel_in a 2) (l 8 (omega arith)) (l 9 (omega arith)) (l 10 (omega arith)) (l 11 (omega arith)))
-      (pixel_by (pick_l 0 (a ++ b) last_places) 2 (pixel_in a 3) (l 12 (omega arith)) (l 13 (omega arith)) (l 14 (omega arith)) (l 15 (omega arith)))
+  pub last_left : (row : ℕ) → row < 2 → pixel_in (pick_l 0 (a ++ b) last_indices) (2 * row) ≡ pixel_in a (2 + row)
+  last_left = below_two (λ row. pixel_in (pick_l 0 (a ++ b) last_indices) (2 * row) ≡ pixel_in a (2 + row))
+      (pixel_by (pick_l 0 (a ++ b) last_indices) 0 (pixel_in a 2) (l 8 (omega arith)) (l 9 (omega arith)) (l 10 (omega arith)) (l 11 (omega arith)))
+      (pixel_by (pick_l 0 (a ++ b) last_indices) 2 (pixel_in a 3) (l 12 (omega arith)) (l 13 (omega arith)) (l 14 (omega arith)) (l 15 (omega arith)))
 
-  pub last_right : (row : ℕ) → row < 2 → pixel_in (pick_l 0 (a ++ b) last_places) (2 * row + 1) ≡ pixel_in b (2 + row)
-  last_right = below_two (λ row. pixel_in (pick_l 0 (a ++ b) last_places) (2 * row + 1) ≡ pixel_in b (2 + row))
-      (pixel_by (pick_l 0 (a ++ b) last_places) 1 (pixel_in b 2) (r 24 (omega arith)) (r 25 (omega arith)) (r 26 (omega arith)) (r 27 (omega arith)))
-      (pixel_by (pick_l 0 (a ++ b) last_places) 3 (pixel_in b 3) (r 28 (omega arith)) (r 29 (omega arith)) (r 30 (omega arith)) (r 31 (omega arith)))
+  pub last_right : (row : ℕ) → row < 2 → pixel_in (pick_l 0 (a ++ b) last_indices) (2 * row + 1) ≡ pixel_in b (2 + row)
+  last_right = below_two (λ row. pixel_in (pick_l 0 (a ++ b) last_indices) (2 * row + 1) ≡ pixel_in b (2 + row))
+      (pixel_by (pick_l 0 (a ++ b) last_indices) 1 (pixel_in b 2) (r 24 (omega arith)) (r 25 (omega arith)) (r 26 (omega arith)) (r 27 (omega arith)))
+      (pixel_by (pick_l 0 (a ++ b) last_indices) 3 (pixel_in b 3) (r 28 (omega arith)) (r 29 (omega arith)) (r 30 (omega arith)) (r 31 (omega arith)))
 
   pub half_first : (j : ℕ) → j < 2 → pixel_in (pick_l 0 (a ++ b) (0 ∷ 1 ∷ 2 ∷ 3 ∷ 4 ∷ 5 ∷ 6 ∷ 7 ∷ [])) j ≡ pixel_in a j
   half_first = below_two (λ j. pixel_in (pick_l 0 (a ++ b) (0 ∷ 1 ∷ 2 ∷ 3 ∷ 4 ∷ 5 ∷ 6 ∷ 7 ∷ [])) j ≡ pixel_in a j)
@@ -95,16 +95,16 @@ pub column_pixels : (src : List ℕ) (first n k : ℕ) (step : ℤ) → pos n �
 column_pixels src first n k step is row j h number =
     let j_is : j ≡ n + row = number_beside first row n j k step is number in
     pixel_same (chunk (4 * n) 16 src) src row j (λ c low.
-    let place : 4 * n + (4 * row + c) ≡ 4 * j + c = omega (arith, j_is) in
-    get_or-chunk (4 * n) 16 src (4 * row + c) 0 (omega (arith, h, low)) ∙ ap (slice_index src) place)
+    let index : 4 * n + (4 * row + c) ≡ 4 * j + c = omega (arith, j_is) in
+    get_or-chunk (4 * n) 16 src (4 * row + c) 0 (omega (arith, h, low)) ∙ ap (slice_index src) index)
 
 -- two pixels that are stored
 
 pub two_in : (old two : List ℕ) (at j : ℕ) → length two ≡ 8 → 4 * (at + 2) ≤ length old → j < 2 → pixel_in (put_chunk (4 * at) old two) (at + j) ≡ pixel_in two j
 two_in old two at j long room h =
     pixel_same (put_chunk (4 * at) old two) two (at + j) j (λ c low.
-    let place : 4 * at + (4 * j + c) ≡ 4 * (at + j) + c = omega arith in
-    subst (λ (n : ℕ). slice_index (put_chunk (4 * at) old two) n ≡ slice_index two (4 * j + c)) place
+    let index : 4 * at + (4 * j + c) ≡ 4 * (at + j) + c = omega arith in
+    subst (λ (n : ℕ). slice_index (put_chunk (4 * at) old two) n ≡ slice_index two (4 * j + c)) index
     (get_or-put_chunk_at (4 * at) old two (4 * j + c) 0 (omega (arith, long, h, low)) (omega (arith, long, room))))
 
 pub two_below : (old two : List ℕ) (at i : ℕ) → i < at → pixel_in (put_chunk (4 * at) old two) i ≡ pixel_in old i
@@ -165,11 +165,11 @@ picks_pair src old new a b c d at apart number size first second third fourth re
   each = λ row k j h low is.
       below_four (λ row. pos j ≡ number row k → pixel_in new (at + row * apart + k) ≡ pixel_in src j)
       (λ is.
-      let place : at + k ≡ at + 0 * apart + k = omega arith in
-      subst (λ (n : ℕ). pixel_in new n ≡ pixel_in src j) place (first k low ∙ in_a k j low is))
+      let index : at + k ≡ at + 0 * apart + k = omega arith in
+      subst (λ (n : ℕ). pixel_in new n ≡ pixel_in src j) index (first k low ∙ in_a k j low is))
       (λ is.
-      let place : at + apart + k ≡ at + 1 * apart + k = omega arith in
-      subst (λ (n : ℕ). pixel_in new n ≡ pixel_in src j) place (second k low ∙ in_b k j low is))
+      let index : at + apart + k ≡ at + 1 * apart + k = omega arith in
+      subst (λ (n : ℕ). pixel_in new n ≡ pixel_in src j) index (second k low ∙ in_b k j low is))
       (λ is. third k low ∙ in_c k j low is)
       (λ is. fourth k low ∙ in_d k j low is)
       row h is;
@@ -214,9 +214,9 @@ more_columns start apart k src old mid new first step back room so two = record 
       omega (arith, column, before))
       ∙ so.each row i j h before is)
       (λ (after : k ≤ i).
-      let place : start + k + row * apart + (i - k) ≡ start + row * apart + i = omega (arith, after) in
+      let index : start + k + row * apart + (i - k) ≡ start + row * apart + i = omega (arith, after) in
       let further : 0 + i ≡ k + (i - k) = omega (arith, after) in
-      subst (λ (n : ℕ). pixel_in new n ≡ pixel_in src j) place
+      subst (λ (n : ℕ). pixel_in new n ≡ pixel_in src j) index
       (two.each row (i - k) j h (omega (arith, low, after)) (is ∙ ap (λ (n : ℕ). picked (first + (if back then 3 - row else row)) step n) further)))
       (cases_lt i k);
   rest = λ i beside.

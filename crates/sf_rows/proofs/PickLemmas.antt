@@ -75,8 +75,8 @@ number_on first k j is = omega (arith, ints, is)
 pub picked_on : (source new : List ℕ) (first n : ℕ) → n % 4 ≡ 0 → new ≡ between (4 * first) (4 * first + n) source → PickedBelow source first (pos 1) (n / 4) new
 picked_on source new first n pixels is = record {
   each = λ k j h number. pixel_same new source k j (λ c low.
-      let place : 4 * first + (4 * k + c) ≡ 4 * j + c = omega (arith, number_on first k j number) in
-      rw is (get_or-between source (4 * first) (4 * first + n) (4 * k + c) 0 (omega (arith, pixels, h, low)) ∙ ap (slice_index source) place));
+      let index : 4 * first + (4 * k + c) ≡ 4 * j + c = omega (arith, number_on first k j number) in
+      rw is (get_or-between source (4 * first) (4 * first + n) (4 * k + c) 0 (omega (arith, pixels, h, low)) ∙ ap (slice_index source) index));
 }
 
 -- pixels that stand one before another
@@ -100,7 +100,7 @@ has_back source first k whole has =
     let high : (pos 4 *ℤ (pos first +ℤ neg_ℤ (pos k))) <ℤ pos (length source) = subst (λ (z : ℤ). (pos 4 *ℤ z) <ℤ pos (length source)) is has.high in
     (omega (arith, ints, low), omega (arith, ints, low, high, whole))
 
--- the last of so many pixels from a place on
+-- the last of so many pixels from an index on
 pub back_low : (source : List ℕ) (first at n long : ℕ) → length source % 4 ≡ 0 → at % 4 ≡ 0 → 0 < n → at + 4 * n ≤ long → ((k : ℕ) → 4 * k < long → HasPixel source (picked first (neg_ℤ (pos 1)) k))
     → at + 4 * n ≤ 4 * first + 4
 back_low source first at n long whole pixels some room inside =
@@ -118,7 +118,7 @@ back_high source first at long whole pixels room inside =
 pub picked_back : (source mid out : List ℕ) (first at from : ℕ) → at % 4 ≡ 0 → at + 64 ≤ length mid → at + (from + 60) ≡ 4 * first → length out ≡ 64
     → ((k c : ℕ) → k < 16 → c < 4 → slice_index out (4 * k + c) ≡ slice_index (chunk from 64 source) (4 * (15 - k) + c))
     → PickedBelow source first (neg_ℤ (pos 1)) (at / 4) mid → PickedBelow source first (neg_ℤ (pos 1)) ((at + 64) / 4) (put_chunk at mid out)
-picked_back source mid out first at from pixels room place long is so = record {
+picked_back source mid out first at from pixels room index long is so = record {
   each = λ k j h number. ⊎_elim
       (λ (before : k < at / 4). pixel_same (put_chunk at mid out) mid k k (λ c low. get_or-put_chunk_below at mid out (4 * k + c) 0 (omega (arith, pixels, before, low))) ∙ so.each k j before number)
       (λ (after : at / 4 ≤ k). pixel_same (put_chunk at mid out) source k j (λ c low. here k j c after h low (number_back first k j number)))
@@ -128,9 +128,9 @@ picked_back source mid out first at from pixels room place long is so = record {
     here : (k j c : ℕ) → at / 4 ≤ k → k < (at + 64) / 4 → c < 4 → j + k ≡ first → slice_index (put_chunk at mid out) (4 * k + c) ≡ slice_index source (4 * j + c)
     here k j c after before low number =
         let i : ℕ = k - at / 4 in
-        let place_out : at + (4 * i + c) ≡ 4 * k + c = omega (arith, pixels, after) in
-        let place_in : from + (4 * (15 - i) + c) ≡ 4 * j + c = omega (arith, pixels, after, before, place, number) in
+        let index_out : at + (4 * i + c) ≡ 4 * k + c = omega (arith, pixels, after) in
+        let index_in : from + (4 * (15 - i) + c) ≡ 4 * j + c = omega (arith, pixels, after, before, index, number) in
         let put : slice_index (put_chunk at mid out) (at + (4 * i + c)) ≡ slice_index out (4 * i + c) = get_or-put_chunk_at at mid out (4 * i + c) 0 (omega (arith, long, pixels, after, before, low)) (omega (arith, long, room)) in
         let was : slice_index (chunk from 64 source) (4 * (15 - i) + c) ≡ slice_index source (from + (4 * (15 - i) + c)) = get_or-chunk from 64 source (4 * (15 - i) + c) 0 (omega (arith, low)) in
-        subst (λ (n : ℕ). slice_index (put_chunk at mid out) n ≡ slice_index source (4 * j + c)) place_out
-        (put ∙ (is i c (omega (arith, pixels, after, before)) low ∙ (was ∙ ap (slice_index source) place_in)))
+        subst (λ (n : ℕ). slice_index (put_chunk at mid out) n ≡ slice_index source (4 * j + c)) index_out
+        (put ∙ (is i c (omega (arith, pixels, after, before)) low ∙ (was ∙ ap (slice_index source) index_in)))

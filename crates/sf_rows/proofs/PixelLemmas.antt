@@ -5,7 +5,7 @@ use Rattle.sf_base.specs.Bytes.{FillsSpan, pixel_in}
 use Rattle.sf_base.specs.Blend.{product, blended}
 use Rattle.sf_base.specs.Paint.{painted}
 use Rattle.sf_base.specs.declared.pixel.Rgba.{Rgba}
-use Rattle.sf_rows.specs.inner.Channels.{alpha_place, row_channel, opaque_source, opaque_channel, colour_part, colour_channel, PaintedPixels}
+use Rattle.sf_rows.specs.inner.Channels.{alpha_index, row_channel, opaque_source, opaque_channel, colour_part, colour_channel, PaintedPixels}
 use Rattle.sf_rows.specs.Pixels.{opaque_pixel, PaintedBelow}
 
 -- the pixel of a row of which each channel is known
@@ -43,11 +43,11 @@ painted_next old mid new paint at source so size one is = record {
 }
 
 -- channels of a row of sources
-row_part : (dst src : List ℕ) (alpha place j : ℕ) → place % 4 ≡ 0 → place ≤ j → j < place + 4
-    → blended (slice_index dst j) (slice_index src j) alpha (product (slice_index src (place + 3)) alpha) ≡ row_channel dst src alpha j
-unfolding row_channel alpha_place
-row_part dst src alpha place j whole low high =
-    let last : place + 3 ≡ j / 4 * 4 + 3 = omega arith in
+row_part : (dst src : List ℕ) (alpha index j : ℕ) → index % 4 ≡ 0 → index ≤ j → j < index + 4
+    → blended (slice_index dst j) (slice_index src j) alpha (product (slice_index src (index + 3)) alpha) ≡ row_channel dst src alpha j
+unfolding row_channel alpha_index
+row_part dst src alpha index j whole low high =
+    let last : index + 3 ≡ j / 4 * 4 + 3 = omega arith in
     rw last refl
 
 pub row_pixels : (old src new : List ℕ) (alpha at : ℕ) → PaintedPixels old (row_channel old src alpha) at new → PaintedBelow old (λ k under. painted under (pixel_in src k) alpha) (at / 4) new

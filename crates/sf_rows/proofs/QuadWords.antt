@@ -27,11 +27,11 @@ word_small (suc n) x zero = omega arith
 word_small (suc n) x (suc i) = word_small n (x / 4294967296) i
 
 -- the last of them first
-abbrev places : List ℕ
-places = 15 ∷ 14 ∷ 13 ∷ 12 ∷ 11 ∷ 10 ∷ 9 ∷ 8 ∷ 7 ∷ 6 ∷ 5 ∷ 4 ∷ 3 ∷ 2 ∷ 1 ∷ 0 ∷ []
+abbrev indices : List ℕ
+indices = 15 ∷ 14 ∷ 13 ∷ 12 ∷ 11 ∷ 10 ∷ 9 ∷ 8 ∷ 7 ∷ 6 ∷ 5 ∷ 4 ∷ 3 ∷ 2 ∷ 1 ∷ 0 ∷ []
 
 abbrev backs : List ℕ → List ℕ
-backs a = pick_l 0 (words a) places
+backs a = pick_l 0 (words a) indices
 
 back_at : (a : List ℕ) (k : ℕ) → k < 16 → get_or (backs a) k 0 ≡ get_or (words a) (15 - k) 0
 back_at a k h = below_sixteen (λ k. get_or (backs a) k 0 ≡ get_or (words a) (15 - k) 0) refl refl refl refl refl refl refl refl refl refl refl refl refl refl refl refl k h
@@ -41,12 +41,12 @@ backs_small a = Each1-from_get_or (λ x. x < 4294967296) (backs a) 0 (λ i h. su
 
 -- a byte of the pixels from the last one back
 pub byte_back : (a : List ℕ) → length a ≡ 64 → Each1 (λ x. x < 256) a → (k c : ℕ) → k < 16 → c < 4
-    → slice_index (digits_l 256 64 (number_l 4294967296 (pick_l 0 (words a ++ words a) places))) (4 * k + c) ≡ slice_index a (4 * (15 - k) + c)
+    → slice_index (digits_l 256 64 (number_l 4294967296 (pick_l 0 (words a ++ words a) indices))) (4 * k + c) ≡ slice_index a (4 * (15 - k) + c)
 byte_back a long small k c row column =
     let room : 4 * (15 - k) + 4 ≤ length a = omega (arith, long, row) in
     let four : List ℕ = chunk (4 * (15 - k)) 4 a in
     let word : get_or (backs a) k 0 ≡ number_l 256 four = back_at a k row ∙ get_or_wider 256 4 4294967296 16 a (15 - k) refl small (omega (arith, row)) in
-    ap (λ (ws : List ℕ). slice_index (digits_l 256 64 (number_l 4294967296 ws)) (4 * k + c)) (pick_l_left 0 (words a) (words a) 16 places refl tt)
+    ap (λ (ws : List ℕ). slice_index (digits_l 256 64 (number_l 4294967296 ws)) (4 * k + c)) (pick_l_left 0 (words a) (words a) 16 indices refl tt)
     ∙ (get_or_narrower 4294967296 4 256 64 (backs a) k c refl (backs_small a) column (omega (arith, row, column))
     ∙ (ap (λ (w : ℕ). w / 256 ^ c % 256) word
     ∙ (byte_of_four four (length-chunk (4 * (15 - k)) 4 a room) (Each1-chunk (λ x. x < 256) (4 * (15 - k)) 4 a small) c column

@@ -3,13 +3,13 @@ ghost use Rattle.std.specs.Prelude.{◌≡◌, ℕ, ◌+◌, ◌-◌, ◌*◌, �
 ghost use Rattle.std.specs.Simd.Lanes.{zip2, Each1};
 ghost use Rattle.sf_base.specs.Blend.{product};
 ghost use Rattle.sf_base.specs.Bytes.{pixel_in};
-ghost use Rattle.sf_rows.specs.inner.Channels.{capped_sum, mix, row_channel, alpha_place};
+ghost use Rattle.sf_rows.specs.inner.Channels.{capped_sum, mix, row_channel, alpha_index};
 ghost use Rattle.sf_rows.specs.inner.Channels.{opaque_source, opaque_channel, colour_part};
 
 use sf_base::Rgba;
 use std::simd::prelude::*;
 
-/// The channels at even places.
+/// The channels at even indices.
 #[inline(always)]
 fn even_channels(a: u8x16) -> u16x8
     ensures each { (j : ℕ) → j < 8 → slice_index result j ≡ slice_index a (2 * j) }
@@ -19,7 +19,7 @@ fn even_channels(a: u8x16) -> u16x8
     u16x8::from_le_bytes(a) & u16x8::splat(255)
 }
 
-/// The channels at odd places.
+/// The channels at odd indices.
 #[inline(always)]
 fn odd_channels(a: u8x16) -> u16x8
     ensures each { (j : ℕ) → j < 8 → slice_index result j ≡ slice_index a (2 * j + 1) }
@@ -77,7 +77,7 @@ fn capped_sums(a: u8x16, b: u8x16) -> u8x16
 /// What each pixel's alpha leaves, for each pair of its channels.
 #[inline(always)]
 fn left_by_alphas(a: u8x16) -> u16x8
-    ensures each { (j : ℕ) → j < 8 → slice_index result j ≡ 255 - slice_index a (alpha_place (2 * j)) }
+    ensures each { (j : ℕ) → j < 8 → slice_index result j ≡ 255 - slice_index a (alpha_index (2 * j)) }
     ensures len { length result ≡ 8 }
     ensures small { Each1 (λ x. x ≤ 255) result }
 {

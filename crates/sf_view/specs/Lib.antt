@@ -2,6 +2,7 @@ pub mod Ancestry
 pub mod Boxes
 pub mod Contents
 pub mod Image
+pub mod Images
 pub mod Views
 pub mod Stacks
 pub mod Placements

@@ -1,6 +1,7 @@
 //! A case of layers, transactions and pixels: does what each of its lines says, and prints what
 //! that answers.
 use crate::answer::Answer;
+use crate::compose::Composer;
 use crate::made::Made;
 use crate::{answer, compose, fill, frames, operation, read, scene, show};
 use sf_base::{LayerId, NoMemory, TokenId};
@@ -190,12 +191,14 @@ impl Case {
                 let (work, count) = frames::turns_asked(name, words)?;
                 let view = scene::viewed(alloc, &self.tree, words)?;
                 let before = self.before.as_ref()?;
-                frames::turns(rt, alloc, work, count, before, &view, contents)
+                let composer = Composer { rt, alloc, work };
+                frames::turns(&composer, count, before, &view, contents)
             }
             _ => {
                 let work = frames::part_asked(name, words)?;
                 let view = scene::sized(alloc, &self.tree, words)?;
-                frames::part(rt, alloc, work, &view, contents, words)
+                let composer = Composer { rt, alloc, work };
+                frames::part(&composer, &view, contents, words)
             }
         }
     }

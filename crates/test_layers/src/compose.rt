@@ -120,35 +120,41 @@ pub fn whole(alloc: Global, view: &View, contents: &[Painted]) -> Option<Vec<u8>
     compose_frame(alloc, view, contents, &sources).ok()
 }
 
+/// With what a part is composed, and how.
+#[derive(Drop)]
+pub struct Composer<'a, R> {
+    pub rt: &'a R,
+    pub alloc: Global,
+    pub work: Work,
+}
+
 /// Composes a part into a frame.
 pub fn add<R: Threads + Sync>(
-    rt: &R,
-    alloc: Global,
-    work: Work,
+    composer: &Composer<'_, R>,
     view: &View,
     contents: &[Painted],
     part: &Region,
     frame: &mut Vec<u8>,
 ) -> Option<()> {
-    let Some(sources) = sources(alloc, view.drawn.as_slice(), contents) else {
+    let Some(sources) = sources(composer.alloc, view.drawn.as_slice(), contents) else {
         return None;
     };
     if frame.len() != 4 * (view.width as usize * view.height as usize) {
         return None;
     }
-    match work {
-        Work::Whole => compose_one(alloc, view, contents, &sources, part, frame).ok(),
+    match composer.work {
+        Work::Whole => compose_one(view, contents, &sources, part, frame).ok(),
         Work::Parallel(workers) => {
             if workers < 1 || workers > 16 {
                 return None;
             }
-            compose(rt, workers, view, contents, &sources, part, frame).ok()
+            compose(composer.rt, workers, view, contents, &sources, part, frame).ok()
         }
         Work::Seen => {
-            let Ok(shown) = visible(alloc, view, part) else {
+            let Ok(shown) = visible(composer.alloc, view, part) else {
                 return None;
             };
-            compose_seen(alloc, view, contents, &sources, &shown, part, frame).ok()
+            compose_seen(view, contents, &sources, &shown, part, frame).ok()
         }
     }
 }

@@ -1,6 +1,6 @@
 //! What of a display changed, what of its layers shows, and frames that are composed in parts or over
 //! one another. Frames in turns, many times over, are what `bench/compose` times.
-use crate::compose::{MOST_PARTS, Work, add, whole};
+use crate::compose::{Composer, MOST_PARTS, Work, add, whole};
 use crate::regions::bounded;
 use crate::show;
 use sf_base::Rect;
@@ -79,17 +79,15 @@ pub fn part_asked(name: &str, words: &mut SplitWhitespace<'_>) -> Option<Work> {
 
 /// A frame of sevens after the rectangles that a line says were composed into it.
 pub fn part<R: Threads + Sync>(
-    rt: &R,
-    alloc: Global,
-    work: Work,
+    composer: &Composer<'_, R>,
     view: &View,
     contents: &[Painted],
     words: &mut SplitWhitespace<'_>,
 ) -> Option<Vec<u8>> {
-    let part = region(alloc, words)?;
+    let part = region(composer.alloc, words)?;
     let size = 4 * (view.width as usize * view.height as usize);
-    let mut frame = vec![in alloc; 7u8; size].ok()?;
-    add(rt, alloc, work, view, contents, &part, &mut frame)?;
+    let mut frame = vec![in composer.alloc; 7u8; size].ok()?;
+    add(composer, view, contents, &part, &mut frame)?;
     Some(frame)
 }
 
@@ -108,37 +106,33 @@ pub fn turns_asked(name: &str, words: &mut SplitWhitespace<'_>) -> Option<(Work,
 
 /// Composes the frame of a view over that of another: all of it, or where the two differ.
 fn turn<R: Threads + Sync>(
-    rt: &R,
-    alloc: Global,
-    work: Work,
+    composer: &Composer<'_, R>,
     before: &View,
     view: &View,
     contents: &[Painted],
     frame: &mut Vec<u8>,
 ) -> Option<()> {
-    let part = match work {
-        Work::Seen => dirty(alloc, before, view).ok()?,
-        Work::Whole | Work::Parallel(_) => display(alloc, view)?,
+    let part = match composer.work {
+        Work::Seen => dirty(composer.alloc, before, view).ok()?,
+        Work::Whole | Work::Parallel(_) => display(composer.alloc, view)?,
     };
-    add(rt, alloc, work, view, contents, &part, frame)
+    add(composer, view, contents, &part, frame)
 }
 
 /// The last of so many frames of two views in turns, each composed over the one before it.
 pub fn turns<R: Threads + Sync>(
-    rt: &R,
-    alloc: Global,
-    work: Work,
+    composer: &Composer<'_, R>,
     count: u32,
     before: &View,
     view: &View,
     contents: &[Painted],
 ) -> Option<Vec<u8>> {
-    let mut frame = whole(alloc, before, contents)?;
+    let mut frame = whole(composer.alloc, before, contents)?;
     for number in 0..count {
         if number % 2 == 0 {
-            turn(rt, alloc, work, before, view, contents, &mut frame)?;
+            turn(composer, before, view, contents, &mut frame)?;
         } else {
-            turn(rt, alloc, work, view, before, contents, &mut frame)?;
+            turn(composer, view, before, contents, &mut frame)?;
         }
     }
     Some(frame)

@@ -1,11 +1,13 @@
 -- Rows of a display, and the bytes of a frame that are theirs.
-use Rattle.std.specs.Prelude.{◌≡◌, ℕ, ◌-◌, ◌*◌, ◌<◌, ◌≤◌, Bool, List, length}
+use Rattle.std.specs.Prelude.{◌≡◌, ℕ, ◌-◌, ◌*◌, ◌<◌, ◌≤◌, Bool, List, length, pos}
 use denote.Ref.{MutBor}
 use denote.Param.Members.{Shared}
+use Rattle.sf_base.specs.declared.geometry.Rect.{Rect}
 use Rattle.sf_base.specs.declared.pixel.Rgba.{Rgba}
 use Rattle.sf_compose.specs.declared.area.Area.{Area}
 use Rattle.sf_compose.specs.declared.band.Band.{Band}
 use Rattle.sf_compose.specs.Frames.{Repaints}
+use Rattle.sf_damage.specs.sf_region.Points.{has}
 
 -- each point of an area is in a band
 pub record IsInBand (band : Band) (area : Area) : Type 0 where
@@ -16,6 +18,14 @@ pub record IsInBand (band : Band) (area : Area) : Type 0 where
 -- four bytes for each pixel of a band, row by row from its top
 pub record HasRows (band : Band) (bytes : List ℕ) : Type 0 where
   pub size : length bytes ≡ 4 * ((band.bottom - band.top) * band.width)
+
+-- the points of a band's rows that pass a test have the colours of an image, and no other changed
+abbrev pub RepaintsBand : Band → (ℕ → ℕ → Bool) → (ℕ → ℕ → Rgba) → List ℕ → List ℕ → Type 0
+RepaintsBand band test image old new = Repaints band.width band.top band.bottom test image old new
+
+-- a point lies in rectangles
+abbrev pub is_in : List Rect → ℕ → ℕ → Bool
+is_in part = λ x y. has part (pos x) (pos y)
 
 -- a band is cut into the rows from its top on, at least one, and those below them
 pub record IsCut (band first below : Band) : Type 0 where

@@ -1,6 +1,7 @@
 -- What is asked of drawn layers that are painted, and of the regions that say where they show.
-use Rattle.std.specs.Prelude.{◌≡◌, ◌≤◌, ℕ, Bool, true, List, [], ◌∷◌, pos}
+use Rattle.std.specs.Prelude.{◌≡◌, ◌≤◌, ℕ, Bool, true, List, [], ◌∷◌, Option, None, Some, pos}
 use Rattle.std.specs.List.{All}
+use denote.Ref.{Bor}
 use Rattle.sf_base.specs.declared.geometry.Rect.{Rect}
 use Rattle.sf_damage.specs.Visible.{shows_at}
 use Rattle.sf_damage.specs.sf_region.Points.{has}
@@ -22,3 +23,8 @@ AreSeenAt test [] regions = regions ≡ []
 AreSeenAt test (drawn ∷ above) [] = ⊥
 AreSeenAt test (drawn ∷ above) (region ∷ regions) =
     ((x y : ℕ) → test x y ≡ true → has region (pos x) (pos y) ≡ shows_at drawn above (pos x) (pos y)) × AreSeenAt test above regions
+
+-- the same, where such regions are given
+abbrev pub AreGivenAt : (ℕ → ℕ → Bool) → List Drawn → Option (Bor (List (List Rect))) → Type 0
+AreGivenAt test layers None = Unit {0}
+AreGivenAt test layers (Some shows) = AreSeenAt test layers shows.now

@@ -39,3 +39,14 @@ pub record IsTold (c : Comparison) (olds news : List Drawn) (others : ℤ → �
   pub found_differ : (x y : ℤ) → has_part found x y ≡ true → Differ c x y
   pub are_open : All (IsOpen c olds news) pieces
   pub all : (x y : ℤ) → Differ c x y → (has_part found x y || (has_piece pieces x y || others x y)) ≡ true
+
+-- an old layer decides on a piece of the points at which it and those above it are compared: what is known with all of the
+-- piece still open is known of the layers above with what is open and found afterwards
+abbrev pub Decides : Drawn → List Drawn → Piece → List Piece → List (List Rect) → List Piece → List (List Rect) → Type 0
+Decides old news piece above found next_above next_found = (c : Comparison) (olds : List Drawn) (others : ℤ → ℤ → Bool) → IsOpen c (old ∷ olds) news piece
+    → IsTold c olds news (λ x y. has piece.part x y || others x y) above found → IsTold c olds news others next_above next_found
+
+-- the same behind the last old layer, after which nothing is open
+abbrev pub DecidesLast : List Drawn → Piece → List (List Rect) → List (List Rect) → Type 0
+DecidesLast news piece found next_found = (c : Comparison) (others : ℤ → ℤ → Bool) → IsOpen c [] news piece
+    → IsTold c [] news (λ x y. has piece.part x y || others x y) [] found → IsTold c [] news others [] next_found

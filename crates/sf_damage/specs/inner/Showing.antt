@@ -1,5 +1,5 @@
 -- What shows of drawn layers, found from the front.
-use Rattle.std.specs.Prelude.{◌≡◌, ℤ, Bool, true, List, reverse}
+use Rattle.std.specs.Prelude.{◌≡◌, ℤ, Bool, true, List, ◌∷◌, reverse}
 use Rattle.std.specs.List.{All, list_any}
 use Rattle.sf_base.specs.declared.geometry.Rect.{Rect}
 use Rattle.sf_region.specs.Points.{IsInBounds, has}
@@ -16,3 +16,7 @@ pub record IsShown (test : ℤ → ℤ → Bool) (layers : List Drawn) (shown : 
   pub within : AreWithin layers (reverse shown)
   pub hides : HideAt test hidden layers
   pub near : All IsInBounds hidden
+
+-- a layer more, below those that are done: what was said of them holds with it
+abbrev pub ShowsOneMore : (ℤ → ℤ → Bool) → Drawn → List (List Rect) → List Rect → List (List Rect) → List Rect → Type 0
+ShowsOneMore test drawn shown hidden next_shown next_hidden = (above : List Drawn) → IsShown test above shown hidden → IsShown test (drawn ∷ above) next_shown next_hidden

@@ -2,7 +2,7 @@
 use Rattle.std.specs.Prelude.{ℕ, ◌<◌, ◌≤◌, ◌≡◌, ◌≢◌, ◌⊎◌, nat_lt, if◌then◌else◌, List, [], ◌∷◌, ◌++◌}
 use Rattle.sf_base.specs.declared.geometry.Rect.{Rect}
 use Rattle.sf_region.specs.Canonical.{IsBanded}
-use Rattle.sf_region.specs.Edges.{left, right, top, bottom, first_place, past_all}
+use Rattle.sf_region.specs.Edges.{left, right, top, bottom, first_offset, past_all}
 use Rattle.sf_region.specs.Spans.{on, keeps, row, rects_of, IsSpread, AllEndBelow, AllEndBy}
 use Rattle.sf_region.specs.declared.spans.Span.{Span}
 use Rattle.sf_region.specs.declared.combine.Combine.{Combine}
@@ -27,10 +27,10 @@ pub record IsAheadRows (rects : List Rect) (y : ℕ) : Type 0 where
   pub banded : IsBanded rects
   pub ends : AllEndBelow y rects
 
--- a row that is drawn on began within the bounds of places
+-- a row that is drawn on began within the bounds of offsets
 abbrev pub FromFirst : List Span → ℕ → Type 0
 FromFirst [] from = Unit {0}
-FromFirst (s ∷ ss) from = first_place ≤ from
+FromFirst (s ∷ ss) from = first_offset ≤ from
 
 -- below each of these rectangles another row stands: one of `all`, or the row that is drawn on
 abbrev pub Differ : List Rect → List Span → ℕ → List Rect → Type 0
@@ -57,7 +57,7 @@ pub record IsCombined (how : Combine) (all_first all_second first second : List 
   pub ahead_first : IsAheadRows first y
   pub ahead_second : IsAheadRows second y
   pub drawn : from < y
-  pub lower : first_place ≤ y
+  pub lower : first_offset ≤ y
   pub upper : y ≤ past_all
   pub same_first : (p : ℕ) → y ≤ p → row first p ≡ row all_first p
   pub same_second : (p : ℕ) → y ≤ p → row second p ≡ row all_second p

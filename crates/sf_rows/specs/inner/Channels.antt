@@ -1,16 +1,16 @@
--- Channels of rows by their places: what the kernels' inner steps compute, byte by byte.
+-- Channels of rows by their indices: what the kernels' inner steps compute, byte by byte.
 use Rattle.std.specs.Prelude.{ℕ, ◌+◌, ◌-◌, ◌*◌, ◌/◌, ◌%◌, ◌<◌, ◌≤◌, ◌≡◌}
 use Rattle.std.specs.Prelude.{min, List, ◌∷◌, [], length, slice_index, if◌then◌else◌, ◌==◌}
 use Rattle.sf_base.specs.Blend.{product, blended}
 use Rattle.sf_base.specs.declared.pixel.Rgba.{Rgba}
 
--- the place of the alpha of the pixel that has this channel
-unfoldable pub alpha_place : ℕ → ℕ
-alpha_place k = k / 4 * 4 + 3
+-- the index of the alpha of the pixel that has this channel
+unfoldable pub alpha_index : ℕ → ℕ
+alpha_index k = k / 4 * 4 + 3
 
 -- channel k of a row of sources over a row of destinations
 unfoldable pub row_channel : List ℕ → List ℕ → ℕ → ℕ → ℕ
-row_channel dst src alpha k = blended (slice_index dst k) (slice_index src k) alpha (product (slice_index src (alpha_place k)) alpha)
+row_channel dst src alpha k = blended (slice_index dst k) (slice_index src k) alpha (product (slice_index src (alpha_index k)) alpha)
 
 -- channel k of a row of sources whose own alphas are taken as 255
 unfoldable pub opaque_source : List ℕ → ℕ → ℕ
@@ -28,13 +28,13 @@ colour_part colour k = slice_index (colour.r ∷ colour.g ∷ colour.b ∷ colou
 unfoldable pub colour_channel : List ℕ → Rgba → ℕ → ℕ → ℕ
 colour_channel dst colour alpha k = blended (slice_index dst k) (colour_part colour k) alpha (product colour.a alpha)
 
--- each channel before a place is what the rule says of it, and the rest is as it was
+-- each channel before an index is what the rule says of it, and the rest is as it was
 pub record PaintedUpTo (old : List ℕ) (channel : ℕ → ℕ) (at : ℕ) (new : List ℕ) : Type 0 where
   pub len : length new ≡ length old
   pub each : (k : ℕ) → k < at → slice_index new k ≡ channel k
   pub rest : (k : ℕ) → at ≤ k → slice_index new k ≡ slice_index old k
 
--- whole pixels were painted, up to a place
+-- whole pixels were painted, up to an index
 pub record PaintedPixels (old : List ℕ) (channel : ℕ → ℕ) (at : ℕ) (new : List ℕ) : Type 0 where
   pub whole : at % 4 ≡ 0
   pub within : at ≤ length old

@@ -36,8 +36,8 @@ overflow_add-result c =
     let small = row_small c.coordinate-row.result c.coordinate-column.result c.picture.result.now.width c.picture.result.now.height (omega (arith, low, height)) c.picture.ensures.size.low c.picture.ensures.size.narrow (omega (arith, narrow, width)) in
     omega (arith, small)
 
-pub returns-clause-place : goal.returns-clause-place
-returns-clause-place c =
+pub returns-clause-number : goal.returns-clause-number
+returns-clause-number c =
     let across_fits : SFits w32 c.args.crop.place.0 = search rules in
     let down_fits : SFits w32 c.args.crop.place.1 = search rules in
     let x_fits : SFits w32 c.args.crop.rect.x = search rules in

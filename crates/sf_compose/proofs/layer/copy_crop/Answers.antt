@@ -27,9 +27,9 @@ copy_crop_row-requires-clause-down c = both_right _ _ (c.requires.inside c.args.
 pub loop-y-preserved : goal.loop-y-preserved
 loop-y-preserved c = λ ground.
     Paints-then _ _ (is_in_box c.args.area.left c.args.area.right c.args.area.top c.loop-y.y) (is_in_box c.args.area.left c.args.area.right c.loop-y.y (c.loop-y.y + 1)) _ _ _ _ _ (c.loop-y.invariant ground)
-    (Paints-row _ _ c.args.area.left c.args.area.right c.loop-y.y c.row_start-row.result _ _ _ _ c.row_start-row.ensures (omega arith) (omega arith) c.requires.within.wide
-    (c.copy_crop_row.ensures.copied c.if-not-copy_crop_row.false (λ i. ground (i - c.row_start-row.result) c.loop-y.y))
-    (λ x under from to. ap (λ (column : ℕ). painted (ground column c.loop-y.y) (pixel_at c.args.picture.now (unsigned ((pos column +ℤ neg_ℤ c.args.crop.place.0) +ℤ c.args.crop.rect.x)) (unsigned ((pos c.loop-y.y +ℤ neg_ℤ c.args.crop.place.1) +ℤ c.args.crop.rect.y))) 255) (moved_back c.row_start-row.result x)))
+    (Paints-row _ _ c.args.area.left c.args.area.right c.loop-y.y c.row_start-start.result _ _ _ _ c.row_start-start.ensures (omega arith) (omega arith) c.requires.within.wide
+    (c.copy_crop_row.ensures.copied c.if-not-copy_crop_row.false (λ i. ground (i - c.row_start-start.result) c.loop-y.y))
+    (λ x under from to. ap (λ (column : ℕ). painted (ground column c.loop-y.y) (pixel_at c.args.picture.now (unsigned ((pos column +ℤ neg_ℤ c.args.crop.place.0) +ℤ c.args.crop.rect.x)) (unsigned ((pos c.loop-y.y +ℤ neg_ℤ c.args.crop.place.1) +ℤ c.args.crop.rect.y))) 255) (moved_back c.row_start-start.result x)))
     (λ a b. box_higher c.args.area.left c.args.area.right c.args.area.top c.loop-y.y a b (omega arith))
     (λ a b t. rows_apart c.args.area.left c.args.area.right c.args.area.top c.loop-y.y a b t)
 
@@ -42,9 +42,9 @@ returns-then-not-copy_crop_row-clause-spared c =
     (Spares-painted _ _ (is_in_box c.args.area.left c.args.area.right c.args.area.top c.loop-y.y) _ _ _ _ (c.loop-y.invariant (λ x y. opaque_black))
     (λ a b t. beside_rows c.args.area.left c.args.area.right c.args.area.top c.args.area.bottom c.loop-y.y a b (omega arith) t))
     (Spares-painted _ _ (is_in_box c.args.area.left c.args.area.right c.loop-y.y (c.loop-y.y + 1)) _ _ _ _
-    (Paints-row _ _ c.args.area.left c.args.area.right c.loop-y.y c.row_start-row.result
-    (λ x y under. pixel_in c.copy_crop_row.new.frame ((y - c.args.band.top) * c.args.band.width + x)) (λ i under. pixel_in c.copy_crop_row.new.frame i) _ _ c.row_start-row.ensures (omega arith) (omega arith) c.requires.within.wide
-    c.copy_crop_row.ensures.touched (λ x under from to. ap (λ (start : ℕ). pixel_in c.copy_crop_row.new.frame (start + x)) c.row_start-row.ensures))
+    (Paints-row _ _ c.args.area.left c.args.area.right c.loop-y.y c.row_start-start.result
+    (λ x y under. pixel_in c.copy_crop_row.new.frame ((y - c.args.band.top) * c.args.band.width + x)) (λ i under. pixel_in c.copy_crop_row.new.frame i) _ _ c.row_start-start.ensures (omega arith) (omega arith) c.requires.within.wide
+    c.copy_crop_row.ensures.touched (λ x under from to. ap (λ (start : ℕ). pixel_in c.copy_crop_row.new.frame (start + x)) c.row_start-start.ensures))
     (λ a b t. beside_row c.args.area.left c.args.area.right c.args.area.top c.args.area.bottom c.loop-y.y a b (omega arith) (omega arith) t))
 
 pub returns-clause-spared : goal.returns-clause-spared

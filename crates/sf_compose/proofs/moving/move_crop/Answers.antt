@@ -11,7 +11,7 @@ use Rattle.sf_damage.specs.sf_picture.declared.picture.Picture.{Picture}
 use Rattle.sf_damage.specs.sf_view.Contents.{source_of, unsigned}
 use Rattle.sf_compose.specs.Frames.{is_in_box}
 use Rattle.sf_compose.specs.inner.Painting.{PaintsSpan}
-use Rattle.sf_compose.proofs.CropLemmas.{both_left, both_right, crop_pixel, crop_room, crop_small, crop_solid, next_row}
+use Rattle.sf_compose.proofs.CropLemmas.{both_left, both_right, row_pixel, crop_room, crop_small, crop_solid, next_row}
 use Rattle.sf_compose.proofs.FrameLemmas.{box_higher, box_without_height}
 use Rattle.sf_compose.proofs.PaintLemmas.{its_point, Paints-ended, Paints-none, Paints-row, Paints-then, rows_apart}
 use Rattle.sf_compose.proofs.SolidLemmas.{moved_whole}
@@ -27,7 +27,7 @@ pub crop_start-from-requires-clause-down : goal.crop_start-from-requires-clause-
 crop_start-from-requires-clause-down c = both_right _ _ (c.requires.inside c.args.area.left c.args.area.top (its_point c.args.area.left c.args.area.right c.args.area.top c.args.area.bottom c.args.area.left c.args.area.top (omega arith) c.requires.across (omega arith) c.requires.down))
 
 pub loop-init : goal.loop-init
-loop-init c = (λ opaque below. Paints-none _ _ _ _ _ (λ a b. box_without_height c.args.area.left c.args.area.right c.args.area.top a b), c.crop_start-from.ensures.place, ap (λ (n : ℕ). n + c.args.area.left) c.row_start.ensures)
+loop-init c = (λ opaque below. Paints-none _ _ _ _ _ (λ a b. box_without_height c.args.area.left c.args.area.right c.args.area.top a b), c.crop_start-from.ensures.number, ap (λ (n : ℕ). n + c.args.area.left) c.row_start.ensures)
 
 -- the rows of a band up to one after another
 row_inside : (w base y bottom right : ℕ) → base ≤ y → y < bottom → right ≤ w → (y - base) * w + right ≤ (bottom - base) * w
@@ -76,7 +76,7 @@ row_moved picture bytes old new rect across down y left right from to opaque bel
   inside = λ i after before.
       moved_whole opaque _ _ _
       (moved.inside i after before ∙ (ap (λ (n : ℕ). pixel_in bytes (n + (i - to))) is
-      ∙ crop_pixel picture bytes rect across down y left right (unsigned ((pos left +ℤ neg_ℤ across) +ℤ rect.x)) (unsigned ((pos y +ℤ neg_ℤ down) +ℤ rect.y)) (i - to) shows lies ordered first last within refl refl (omega (arith, after, before))))
+      ∙ row_pixel picture bytes rect across down y left right (unsigned ((pos left +ℤ neg_ℤ across) +ℤ rect.x)) (unsigned ((pos y +ℤ neg_ℤ down) +ℤ rect.y)) (i - to) shows lies ordered first last within refl refl (omega (arith, after, before))))
       (omega (arith, small (4 * i))) (omega (arith, small (4 * i + 1))) (omega (arith, small (4 * i + 2)))
       (crop_solid picture rect across down y left right (left + (i - to)) solid lies ordered first last within (omega arith) (omega (arith, after, before, ordered)));
   below = moved.below;

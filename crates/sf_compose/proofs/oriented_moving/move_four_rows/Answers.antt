@@ -1,4 +1,4 @@
-use Rattle.std.proofs.Common.{◌≡◌, ◌+◌, ◌-◌, ◌*◌, ◌<◌, ◌≤◌, ◌∙◌, ℕ, Bool, true, if◌then◌else◌, List, ap, refl, arith, rules, subst, sym, pos, to_z, of_z, w32, slice_index}
+use Rattle.std.proofs.Common.{◌≡◌, ◌+◌, ◌-◌, ◌*◌, ◌<◌, ◌≤◌, ◌∙◌, ℕ, Bool, true, if◌then◌else◌, ap, refl, arith, rules, subst, sym, pos, to_z, of_z, w32, slice_index}
 use Rattle.sf_base.specs.Bytes.{pixel_in}
 use Rattle.sf_base.specs.Geometry.{covers}
 use Rattle.sf_base.specs.Paint.{painted}

@@ -1,4 +1,4 @@
-use Rattle.std.proofs.Common.{◌+◌, ◌≤◌, arith}
+use Rattle.std.proofs.Common.{◌+◌, arith}
 use Rattle.sf_compose.proofs.FourRowLemmas.{in_box, Paints-lower}
 use Rattle.sf_compose.proofs.FrameLemmas.{box_without_height}
 use Rattle.sf_compose.proofs.PaintLemmas.{box_without_sides, Paints-ended, Paints-none}

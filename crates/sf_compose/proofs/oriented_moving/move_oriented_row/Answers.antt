@@ -31,10 +31,10 @@ row_moved picture old new crop orient place start y left right opaque below soli
 
 pub returns : goal.returns
 returns c = λ opaque below.
-    row_moved c.args.picture.now c.args.frame.now _ c.args.oriented.crop c.args.oriented.orient c.args.oriented.place c.args.start c.args.y c.args.left c.args.right opaque below c.requires.solid c.requires.crop c.requires.orient c.requires.inside
+    row_moved c.args.picture.now c.args.frame.now _ c.args.oriented.crop c.args.oriented.orient c.args.oriented.place c.args.row.start c.args.row.y c.args.row.left c.args.row.right opaque below c.requires.solid c.requires.crop c.requires.orient c.requires.inside
     (λ k. (c.type_inv.frame k).fits)
-    (PaintsSpan-part _ _ (c.args.start + c.args.left) (c.args.start + c.args.right) (λ i under. pixel_shown c.args.picture.now c.args.oriented.crop c.args.oriented.orient c.args.oriented.place (pos (i - c.args.start)) (pos c.args.y)) (omega (arith, c.requires.ordered)) c.requires.room c.pick_oriented.ensures.size
+    (PaintsSpan-part _ _ (c.args.row.start + c.args.row.left) (c.args.row.start + c.args.row.right) (λ i under. pixel_shown c.args.picture.now c.args.oriented.crop c.args.oriented.orient c.args.oriented.place (pos (i - c.args.row.start)) (pos c.args.row.y)) (omega (arith, c.requires.ordered)) c.requires.room c.pick_oriented.ensures.size
     (λ k low.
-    let long = length-between c.args.frame.now (4 * (c.args.start + c.args.left)) (4 * (c.args.start + c.args.right)) c.requires.room in
-    let place : ((c.args.start + c.args.left) + k) - c.args.start ≡ c.args.left + k = omega arith in
+    let long = length-between c.args.frame.now (4 * (c.args.row.start + c.args.row.left)) (4 * (c.args.row.start + c.args.row.right)) c.requires.room in
+    let place : ((c.args.row.start + c.args.row.left) + k) - c.args.row.start ≡ c.args.row.left + k = omega arith in
     rw place (c.pick_oriented.ensures.pixels k (omega (arith, low, long)))))

@@ -17,7 +17,7 @@ move_oriented_row-requires-clause-inside c = λ x from to. c.requires.inside x c
 pub loop-y-preserved : goal.loop-y-preserved
 loop-y-preserved c = λ opaque below.
     Paints-then _ _ (is_in_box c.args.area.left c.args.area.right c.args.area.top c.loop-y.y) (is_in_box c.args.area.left c.args.area.right c.loop-y.y (c.loop-y.y + 1)) _ _ _ _ _ (c.loop-y.invariant opaque below)
-    (Paints-row _ _ c.args.area.left c.args.area.right c.loop-y.y c.row_start-start.result _ _ _ _ c.row_start-start.ensures (omega arith) c.requires.across c.requires.within.wide
+    (Paints-row _ _ c.args.area.left c.args.area.right c.loop-y.y c.row_start-start.result _ _ _ _ c.row_start-start.ensures (omega arith) (omega arith) c.requires.within.wide
     (c.move_oriented_row.ensures opaque (λ i under. below (i - c.row_start-start.result) c.loop-y.y under))
     (λ x under from to. ap (λ (column : ℕ). painted (below column c.loop-y.y under) (source_of opaque (pixel_shown c.args.picture.now c.args.oriented.crop c.args.oriented.orient c.args.oriented.place (pos column) (pos c.loop-y.y))) 255) (moved_back c.row_start-start.result x)))
     (λ a b. box_higher c.args.area.left c.args.area.right c.args.area.top c.loop-y.y a b (omega arith))

@@ -8,7 +8,7 @@ abbrev pub invariant-loop-at : goal.invariant-loop-at
 invariant-loop-at g l = record {
   inside : l.at ≤ length l.layers;
   spared : Spares l.band.width l.band.top (λ x y. is_in_area l.area x y && has l.part (pos x) (pos y)) l.fn.frame l.frame;
-  begun : IsBegun l.band.width l.band.top (λ x y. is_in_area l.area x y && has l.part (pos x) (pos y)) (map g.C.Pixels.picture l.contents) l.layers l.sources l.at l.frame;
+  begun : IsBegun l.band.width l.band.top (λ x y. is_in_area l.area x y && has l.part (pos x) (pos y)) (map g.C.Pixels.picture l.composition.contents.now) l.layers l.composition.sources.now l.at l.frame;
 }
 
 abbrev pub decreases-loop-at : goal.decreases-loop-at

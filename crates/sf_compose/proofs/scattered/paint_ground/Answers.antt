@@ -1,4 +1,4 @@
-use Rattle.std.proofs.Common.{◌≡◌, pos, List, subst}
+use Rattle.std.proofs.Common.{pos, subst}
 use Rattle.sf_base.specs.Geometry.{covers}
 use Rattle.sf_base.specs.Paint.{painted}
 use Rattle.sf_base.specs.declared.geometry.Rect.{Rect}

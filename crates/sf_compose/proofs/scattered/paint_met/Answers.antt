@@ -15,10 +15,10 @@ pub loop-at-init : goal.loop-at-init
 loop-at-init g c = record {
   within = c.next_meeting-at.ensures.within;
   paints = Paints-passed c.args.band.width c.args.band.top (is_in_area c.args.area) c.args.shown.now c.args.part.now 0 c.next_meeting-at.result
-      (λ x y under. under_one (map g.C.Pixels.picture c.args.contents.now) (pos x) (pos y) under c.args.drawn.now c.args.source)
+      (λ x y under. under_one (map g.C.Pixels.picture c.args.layer.now.contents.now) (pos x) (pos y) under c.args.layer.now.drawn.now c.args.layer.now.source)
       c.args.frame.now c.args.frame.now c.next_meeting-at.ensures.same
       (Paints-none c.args.band.width c.args.band.top (λ x y. (is_in_area c.args.area x y && covers c.args.shown.now (pos x) (pos y)) && has (take 0 c.args.part.now) (pos x) (pos y))
-      (λ x y under. under_one (map g.C.Pixels.picture c.args.contents.now) (pos x) (pos y) under c.args.drawn.now c.args.source)
+      (λ x y under. under_one (map g.C.Pixels.picture c.args.layer.now.contents.now) (pos x) (pos y) under c.args.layer.now.drawn.now c.args.layer.now.source)
       c.args.frame.now (λ x y. right_false (is_in_area c.args.area x y && covers c.args.shown.now (pos x) (pos y))));
 }
 
@@ -32,10 +32,10 @@ loop-at-preserved g c =
     record {
       within = c.next_meeting-next.ensures.within;
       paints = Paints-passed c.args.band.width c.args.band.top (is_in_area c.args.area) c.args.shown.now c.args.part.now (at + 1) c.next_meeting-next.result
-          (λ x y under. under_one (map g.C.Pixels.picture c.args.contents.now) (pos x) (pos y) under c.args.drawn.now c.args.source)
+          (λ x y under. under_one (map g.C.Pixels.picture c.args.layer.now.contents.now) (pos x) (pos y) under c.args.layer.now.drawn.now c.args.layer.now.source)
           c.args.frame.now c.paint_layer.new.frame c.next_meeting-next.ensures.same
           (Paints-piece c.args.band.width c.args.band.top (λ x y. is_in_area c.args.area x y && covers c.args.shown.now (pos x) (pos y)) (is_in_area c.cut-piece.result) c.args.part.now at nowhere
-          (λ x y under. under_one (map g.C.Pixels.picture c.args.contents.now) (pos x) (pos y) under c.args.drawn.now c.args.source)
+          (λ x y under. under_one (map g.C.Pixels.picture c.args.layer.now.contents.now) (pos x) (pos y) under c.args.layer.now.drawn.now c.args.layer.now.source)
           c.args.frame.now c.loop-at.frame c.paint_layer.new.frame (subst IsDisjoint same c.rects-rects.ensures.disjoint) (rw same at c.loop-at-test.true) c.loop-at.invariant.paints c.paint_layer.ensures points);
     }
 
@@ -43,5 +43,5 @@ pub returns : goal.returns
 returns g c =
     let done = take_all c.loop-at.at c.args.part.now (rw c.rects-rects.ensures.same at c.loop-at-test.false) in
     subst (λ (part : List Rect). Paints c.args.band.width c.args.band.top (λ x y. (is_in_area c.args.area x y && covers c.args.shown.now (pos x) (pos y)) && has part (pos x) (pos y))
-    (λ x y under. under_one (map g.C.Pixels.picture c.args.contents.now) (pos x) (pos y) under c.args.drawn.now c.args.source)
+    (λ x y under. under_one (map g.C.Pixels.picture c.args.layer.now.contents.now) (pos x) (pos y) under c.args.layer.now.drawn.now c.args.layer.now.source)
     c.args.frame.now c.loop-at.frame) done c.loop-at.invariant.paints

@@ -7,5 +7,5 @@ use Rattle.sf_compose.proofs.seen.paint_parts.Given as goal
 abbrev pub invariant-loop-part : goal.invariant-loop-part
 invariant-loop-part g l =
     Paints l.band.width l.band.top (λ x y. is_in_area l.area x y && has (take l.part-index l.parts) (pos x) (pos y))
-    (λ x y under. under_one (map g.C.Pixels.picture l.contents) (pos x) (pos y) under l.drawn l.source)
+    (λ x y under. under_one (map g.C.Pixels.picture l.layer.contents.now) (pos x) (pos y) under l.layer.drawn.now l.layer.source)
     l.fn.frame l.frame

@@ -1,11 +1,11 @@
 use Rattle.std.proofs.Common.{◌≡◌, ℕ, ◌<◌, ◌≤◌, ◌-◌, ◌+◌, ◌*◌, ◌%◌, ◌++◌, slice_index, subst, arith}
-use Rattle.sf_rows.specs.inner.Channels.{alpha_place}
+use Rattle.sf_rows.specs.inner.Channels.{alpha_index}
 use Rattle.sf_rows.proofs.RowLemmas.{below_eight}
 use Rattle.sf_rows.proofs.ByteWords.{left_one, small_at}
 use Rattle.sf_rows.proofs.lanes.left_by_alphas.Goals as goal
 
 pub returns-clause-each : goal.returns-clause-each
-unfolding alpha_place
+unfolding alpha_index
 returns-clause-each c =
     let r = c.odd_channels.result in
     let e = c.odd_channels.ensures in

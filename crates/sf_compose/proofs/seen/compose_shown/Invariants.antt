@@ -1,12 +1,12 @@
 use Rattle.std.proofs.Common.{◌≤◌, ◌-◌, length, map}
 use Rattle.sf_compose.specs.inner.Begun.{IsBegun, Spares}
 use Rattle.sf_compose.specs.inner.Painting.{is_in_area}
-use Rattle.sf_compose.proofs.seen.compose_slice_seen.Given as goal
+use Rattle.sf_compose.proofs.seen.compose_shown.Given as goal
 
 abbrev pub invariant-loop-at : goal.invariant-loop-at
 invariant-loop-at g l =
     (l.at ≤ length l.layers) × Spares l.band.width l.band.top (is_in_area l.area) l.fn.frame l.frame
-    × IsBegun l.band.width l.band.top (is_in_area l.area) (map g.C.Pixels.picture l.contents) l.layers l.sources l.at l.frame
+    × IsBegun l.band.width l.band.top (is_in_area l.area) (map g.C.Pixels.picture l.composition.contents.now) l.layers l.composition.sources.now l.at l.frame
 
 abbrev pub decreases-loop-at : goal.decreases-loop-at
 decreases-loop-at g l = length l.layers - l.at
