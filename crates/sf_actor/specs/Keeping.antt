@@ -35,3 +35,9 @@ pub record TraceKept {B : Type 0} (pictures : ℕ → Picture) (script : ActorSc
   pub pays : (frame : FrameNumber) → Contains (paid_in trace) frame → WasPaid share.left share.calls frame
   -- its draws came in turn
   pub turns : DrawInTurn share trace
+
+-- what the trace of any actor keeps over a share it keeps over another one, too
+abbrev pub KeepsTraces : {B : Type 0} → Share B → Share B → Type 0
+KeepsTraces old new =
+    (pictures : ℕ → Picture) (script : ActorScript) (stock : List ℕ) (trace : List Done) (replies : List Reply)
+    → TraceKept pictures script stock trace replies old → TraceKept pictures script stock trace replies new

@@ -92,6 +92,10 @@ module _ {B : Type 0} where
     pub reached : IsSignalled (past_of actor).shown share.values
     pub permits : ArePermits actor share
 
+  -- what an actor keeps over a share it keeps over another one, too
+  abbrev pub KeepsActor : ActorOf B → Share B → Share B → Type 0
+  KeepsActor actor old new = (pictures : ℕ → Picture) → ActorKept pictures actor old → ActorKept pictures actor new
+
   -- the desk has the queue of each token and of each frame of a transaction
   pub record AreThere (home : DeskHome) (parts : HoldingsOf B) : Type 0 where
     pub names : (name : ℕ) (held : Holding B) → held_in parts name ≡ Some held → has_queue home (queue_held held).0 ≡ true

@@ -13,6 +13,7 @@ use Rattle.sf_actor.specs.Desks.{ChangesTimes, DeskHome, DeskView, has_queue}
 use Rattle.sf_actor.specs.Names.{is_apart, is_frame, is_lent, name_in}
 use Rattle.sf_actor.specs.Points.{frame_fence, requested_fence}
 use Rattle.sf_actor.specs.Scripts.{layer_of, op_of}
+use Rattle.sf_actor.specs.Tests.{refusal_of}
 use Rattle.sf_actor.specs.Tries.{Sees}
 use Rattle.sf_actor_steps.specs.Doing.{HasQueueOf, MakesCall}
 use Rattle.sf_actor_steps.specs.Drawing.{Draws, TakesPicture}
@@ -111,3 +112,8 @@ module _ {B : Type 0} where
   abbrev pub Attempts : Option ℕ → (ℕ → Picture) → DeskHome → ℕ → ℕ → Step → Bindings B → Bindings B → DeskView B → DeskView B → Tried → Type 0
   Attempts (Some status) pictures home by step_number s before after old new came_to = (came_to ≡ tried.Own status) × (after ≡ before) × (new ≡ old)
   Attempts None pictures home by step_number s before after old new came_to = Acts pictures home by step_number s before after old new came_to
+
+  -- the same of the step with this number in its actor's script, by what the actor's names and numbers hold
+  abbrev pub AttemptsStep : (ℕ → Picture) → DeskHome → ℕ → Step → Bindings B → Bindings B → DeskView B → DeskView B → Tried → Type 0
+  AttemptsStep pictures home step_number s before after old new came_to =
+      Attempts (refusal_of pictures (holdings_of before) s) pictures home before.by.0 step_number s before after old new came_to

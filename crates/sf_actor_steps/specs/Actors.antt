@@ -1,7 +1,8 @@
 -- What contracts see of an actor. Its trace is not in its memory: contracts speak of each trace that fits what it has.
-use Rattle.std.specs.Prelude.{◌≡◌, ℕ, ◌+◌, ◌≤◌, false, List, [], length, replicate, None, Some}
+use Rattle.std.specs.Prelude.{◌≡◌, ℕ, ◌+◌, ◌≤◌, false, List, [], length, replicate, None, Some, Result, IfOk}
 use Rattle.atomic_table.specs.Seated.{TableId}
 use Rattle.sf_base.specs.declared.ids.ActorId.{ActorId}
+use Rattle.sf_base.specs.declared.memory.NoMemory.{NoMemory}
 use Rattle.sf_actor.specs.sf_picture.declared.picture.Picture.{Picture}
 use Rattle.sf_actor.specs.sf_script_scene.declared.step.ActorScript.{ActorScript}
 use Rattle.sf_actor.specs.sf_script_scene.declared.step.Step.{Step}
@@ -83,3 +84,9 @@ module _ {B : Type 0} where
     pub keeps : Keeps pictures home new after
     pub tries : Tries pictures home old before new after stepped
     pub acts : (next : Step) → next_step old ≡ Some next → Acts pictures home next (length old.trace + 1) was before actor.bindings after
+
+  -- whatever an actor was seen as, and kept, it keeps it through a try of its next step that does not run out of memory
+  abbrev pub TriesToStep : TableId → (ℕ → Picture) → DeskHome → Actor B → DeskView B → Actor B → DeskView B → Result Stepped NoMemory → Type 0
+  TriesToStep table pictures home old before new after result =
+      (actor : ActorOf B) → IsActor table old actor → Keeps pictures home actor before
+      → IfOk result (Steps table pictures home old.bindings actor before new after)

@@ -1,7 +1,8 @@
 -- What a step that makes a call on a queue does.
-use Rattle.std.specs.Prelude.{◌≡◌, ℕ, true, Option, Some}
+use Rattle.std.specs.Prelude.{◌≡◌, ℕ, true, List, Option, Some}
 use Rattle.sf_actor.specs.sf_picture.declared.picture.Picture.{Picture}
 use Rattle.sf_actor.specs.sf_script_scene.declared.step.Step.{Step}
+use Rattle.sf_actor.specs.sf_script_scene.declared.step.Step.TheVariants as step
 use Rattle.sf_actor.specs.Desks.{DeskHome, DeskView, has_queue}
 use Rattle.sf_actor.specs.Names.{Frame, Lent, Token}
 use Rattle.sf_actor_steps.specs.Calling.{TriesCall}
@@ -17,6 +18,18 @@ pub record MakesCall {B : Type 0} (pictures : ℕ → Picture) (home : DeskHome)
   pub asking : Asking B
   pub forms : FormsCall pictures s before taken asking
   pub tries : TriesCall home by step_number asking taken after old new tried
+
+module _ {B : Type 0} where
+  -- whatever the pictures of numbers are, it makes the call of this step, which has this number in its actor's script
+  abbrev pub Makes : DeskHome → ℕ → Step → Bindings B → Bindings B → DeskView B → DeskView B → Tried → Type 0
+  Makes home step_number s before after old new tried = (pictures : ℕ → Picture) → MakesCall pictures home before.by.0 step_number s before after old new tried
+
+  -- the same of a step that queues what a name holds: as a frame of this picture, whatever number the picture has
+  abbrev pub MakesQueue : DeskHome → ℕ → ℕ → Picture → Option ℕ → Option (ℕ × ℕ × ℕ × ℕ) → List (ℕ × ℕ)
+      → Bindings B → Bindings B → DeskView B → DeskView B → Tried → Type 0
+  MakesQueue home step_number name picture time crop points before after old new tried =
+      (pictures : ℕ → Picture) (number : ℕ) → pictures number ≡ picture
+      → MakesCall pictures home before.by.0 step_number (step.Queue name number time crop points) before after old new tried
 
 -- the queue of a lent buffer or of a frame is there
 abbrev pub HasQueueOf : DeskHome → Option Token → Type 0

@@ -6,13 +6,16 @@ use Rattle.sf_base.specs.declared.fences.Seen.{Seen}
 use Rattle.sf_base.specs.Statuses.{number_of}
 use Rattle.sf_actor.specs.sf_picture.declared.picture.Picture.{Picture}
 use Rattle.sf_actor.specs.sf_script_scene.declared.step.Step.{Step}
+use Rattle.sf_actor.specs.sf_script_scene.declared.step.Step.TheVariants as step
 use Rattle.sf_actor.specs.declared.holding.Holding.{Holding}
 use Rattle.sf_actor.specs.declared.holding.Holding.TheVariants as holding
 use Rattle.sf_actor.specs.Desks.{ChangesTimes, DeskHome, DeskView}
-use Rattle.sf_actor.specs.Names.{Token, is_frame, is_lent}
+use Rattle.sf_actor.specs.Names.{Token, is_frame, is_lent, name_in}
 use Rattle.sf_actor.specs.Points.{frame_fence, requested_fence}
 use Rattle.sf_actor.specs.Tries.{Sees}
+use Rattle.sf_actor_steps.specs.Bindings.{holdings_of}
 use Rattle.sf_actor_steps.specs.Doing.{MakesCall}
+use Rattle.sf_actor_steps.specs.Forming.{detach_step}
 use Rattle.sf_actor_steps.specs.declared.bindings.Bindings.{Bindings}
 use Rattle.sf_actor_steps.specs.declared.tried.Tried.{Tried}
 use Rattle.sf_actor_steps.specs.declared.tried.Tried.TheVariants as tried
@@ -55,6 +58,12 @@ module _ {B : Type 0} where
   TriesToLeave pictures home by step_number s fence before after old new other =
       (looked : DeskView B) × LooksFor home fence old looked × MakesCall pictures home by step_number s before after looked new other
 
+  -- whatever the pictures of numbers are, it tries the step that takes a buffer out of its queue, from one name to another
+  abbrev pub TriesToDetach : DeskHome → ℕ → Bool → ℕ → ℕ → Bindings B → Bindings B → DeskView B → DeskView B → Tried → Type 0
+  TriesToDetach home step_number reads from to before after old new tried =
+      (pictures : ℕ → Picture) → TriesToLeave pictures home before.by.0 step_number (detach_step reads from to)
+      (leaving_fence reads (name_in (holdings_of before) from)) before after old new tried
+
   -- a name without the lent buffer of this queue, if it holds one
   abbrev pub unless_lent : ℕ → Holding B → Option (Holding B)
   unless_lent queue (holding.Lends lease) = if lease.queue.0 == queue then None else Some (holding.Lends lease)
@@ -83,3 +92,8 @@ module _ {B : Type 0} where
     pub called : Bindings B
     pub makes : MakesCall pictures home by step_number s before called old new tried
     pub drops : after ≡ dropped_after queue tried called
+
+  -- whatever the pictures of numbers are, it does so for this queue
+  abbrev pub MakesDisconnect : DeskHome → ℕ → ℕ → Bindings B → Bindings B → DeskView B → DeskView B → Tried → Type 0
+  MakesDisconnect home step_number queue before after old new tried =
+      (pictures : ℕ → Picture) → Disconnects pictures home before.by.0 step_number (step.Disconnect queue) queue before after old new tried

@@ -22,7 +22,7 @@ impl<B: TableName> Bindings<B> {
     ghost use Rattle.sf_actor.specs.sf_script_scene.Named.{KnowsPicture};
     ghost use Rattle.sf_actor.specs.Scripts.{picture_at};
     ghost use Rattle.sf_actor.specs.Tests.{refusal_of};
-    ghost use Rattle.sf_actor_steps.specs.Acting.{Attempts, MayAct};
+    ghost use Rattle.sf_actor_steps.specs.Acting.{AttemptsStep, MayAct};
     ghost use Rattle.sf_actor_steps.specs.Bindings.{holdings_of};
 
     /// Tries a step: its own tests come first.
@@ -37,8 +37,8 @@ impl<B: TableName> Bindings<B> {
         requires known { KnowsPicture pictures.now step.now }
         requires may { refusal_of (picture_at pictures.now) (holdings_of self.old) step.now ≡ None
             → MayAct (picture_at pictures.now) B.table (D.home desk.old) step.now self.old }
-        ensures attempts { IfOk result (Attempts (refusal_of (picture_at pictures.now) (holdings_of self.old) step.now) (picture_at pictures.now)
-            (D.home desk.old) self.old.by.0 step_number step.now self.old self.new (D.view desk.old) (D.view desk.new)) }
+        ensures attempts { IfOk result (AttemptsStep (picture_at pictures.now) (D.home desk.old) step_number step.now
+            self.old self.new (D.view desk.old) (D.view desk.new)) }
         ensures home { D.home desk.new ≡ D.home desk.old }
     {
         match self.refusal(pictures, step) {
@@ -51,8 +51,7 @@ impl<B: TableName> Bindings<B> {
 impl<B: TableName> Actor<B> {
     ghost use Rattle.std.specs.Prelude.{◌≡◌, false, true, nat_le, length, IfOk, IfErr, IsErr};
     ghost use Rattle.sf_actor.specs.Scripts.{picture_at};
-    ghost use Rattle.sf_actor.specs.Tries.{ActorOf, Keeps};
-    ghost use Rattle.sf_actor_steps.specs.Actors.{IsActor, IsKept, Steps, new_actor};
+    ghost use Rattle.sf_actor_steps.specs.Actors.{IsActor, IsKept, TriesToStep, new_actor};
     ghost use Rattle.sf_actor_steps.specs.Playable.{MayPlay};
 
     /// An actor that has done nothing. Out of memory hands script and stock back.
@@ -105,8 +104,8 @@ impl<B: TableName> Actor<B> {
     ) -> Result<Stepped, NoMemory>
         requires plays { MayPlay (D.home desk.old) pictures.now self.old.script }
         requires kept { self.old.is_spent ≡ false → IsKept B.table (picture_at pictures.now) (D.home desk.old) self.old (D.view desk.old) }
-        ensures steps { (actor : ActorOf B) → IsActor B.table self.old actor → Keeps (picture_at pictures.now) (D.home desk.old) actor (D.view desk.old)
-            → IfOk result (Steps B.table (picture_at pictures.now) (D.home desk.old) self.old.bindings actor (D.view desk.old) self.new (D.view desk.new)) }
+        ensures steps { TriesToStep B.table (picture_at pictures.now) (D.home desk.old) self.old (D.view desk.old)
+            self.new (D.view desk.new) result }
         ensures spent { self.old.is_spent ≡ true → IsErr result }
         ensures no_memory { IfErr result (λ _. self.new.is_spent ≡ true) }
         ensures script { self.new.script ≡ self.old.script }
@@ -128,8 +127,8 @@ impl<B: TableName> Actor<B> {
     ) -> Result<Stepped, NoMemory>
         requires plays { MayPlay (D.home desk.old) pictures.now self.old.script }
         requires kept { IsKept B.table (picture_at pictures.now) (D.home desk.old) self.old (D.view desk.old) }
-        ensures steps { (actor : ActorOf B) → IsActor B.table self.old actor → Keeps (picture_at pictures.now) (D.home desk.old) actor (D.view desk.old)
-            → IfOk result (Steps B.table (picture_at pictures.now) (D.home desk.old) self.old.bindings actor (D.view desk.old) self.new (D.view desk.new)) }
+        ensures steps { TriesToStep B.table (picture_at pictures.now) (D.home desk.old) self.old (D.view desk.old)
+            self.new (D.view desk.new) result }
         ensures spent { self.new.is_spent ≡ self.old.is_spent }
         ensures script { self.new.script ≡ self.old.script }
         ensures home { D.home desk.new ≡ D.home desk.old }

@@ -32,6 +32,13 @@ pub struct Homes {
     pub held: Held,
 }
 
+/// From which name a buffer goes to which.
+#[derive(Clone, Copy)]
+pub struct Move {
+    pub from: u32,
+    pub to: u32,
+}
+
 /// A call that a step makes on a queue.
 pub struct Asking<B: TableName> {
     pub queue: QueueId,

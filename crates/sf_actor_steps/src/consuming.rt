@@ -6,12 +6,11 @@ use sf_actor::{Desk, Points, QCall, TableName, TokensOf};
 use sf_base::{NoMemory, QueueId};
 
 impl<B: TableName> Bindings<B> {
-    ghost use Rattle.std.specs.Prelude.{◌≡◌, ℕ, true, IfOk};
-    ghost use Rattle.sf_actor.specs.sf_picture.declared.picture.Picture.{Picture};
+    ghost use Rattle.std.specs.Prelude.{◌≡◌, true, IfOk};
     ghost use Rattle.sf_actor.specs.sf_script_scene.declared.step.Step.TheVariants as step;
     ghost use Rattle.sf_actor.specs.Desks.{has_queue};
     ghost use Rattle.sf_actor.specs.Names.{is_frame, name_in};
-    ghost use Rattle.sf_actor_steps.specs.Doing.{HasQueueOf, MakesCall};
+    ghost use Rattle.sf_actor_steps.specs.Doing.{HasQueueOf, Makes};
     ghost use Rattle.sf_actor_steps.specs.Forming.{ArePoints};
     ghost use Rattle.sf_actor_steps.specs.Bindings.{holdings_of};
 
@@ -25,8 +24,7 @@ impl<B: TableName> Bindings<B> {
     ) -> Result<Tried, NoMemory>
         requires served { (D.home desk.old).serves self.old.by.0 ≡ true }
         requires there { has_queue (D.home desk.old) queue ≡ true }
-        ensures makes { IfOk result (λ tried. (pictures : ℕ → Picture) → MakesCall pictures
-            (D.home desk.old) self.old.by.0 step_number (step.MaxAcquired queue n) self.old self.new (D.view desk.old) (D.view desk.new) tried) }
+        ensures makes { IfOk result (Makes (D.home desk.old) step_number (step.MaxAcquired queue n) self.old self.new (D.view desk.old) (D.view desk.new)) }
         ensures home { D.home desk.new ≡ D.home desk.old }
     {
         self.ask(
@@ -45,8 +43,7 @@ impl<B: TableName> Bindings<B> {
     ) -> Result<Tried, NoMemory>
         requires served { (D.home desk.old).serves self.old.by.0 ≡ true }
         requires there { has_queue (D.home desk.old) queue ≡ true }
-        ensures makes { IfOk result (λ tried. (pictures : ℕ → Picture) → MakesCall pictures
-            (D.home desk.old) self.old.by.0 step_number (step.Abandon queue) self.old self.new (D.view desk.old) (D.view desk.new) tried) }
+        ensures makes { IfOk result (Makes (D.home desk.old) step_number (step.Abandon queue) self.old self.new (D.view desk.old) (D.view desk.new)) }
         ensures home { D.home desk.new ≡ D.home desk.old }
     {
         self.ask(desk, step_number, named(QueueId(queue), 0, QCall::Abandon))
@@ -63,8 +60,7 @@ impl<B: TableName> Bindings<B> {
     ) -> Result<Tried, NoMemory>
         requires served { (D.home desk.old).serves self.old.by.0 ≡ true }
         requires there { has_queue (D.home desk.old) queue ≡ true }
-        ensures makes { IfOk result (λ tried. (pictures : ℕ → Picture) → MakesCall pictures
-            (D.home desk.old) self.old.by.0 step_number (step.Acquire queue name at) self.old self.new (D.view desk.old) (D.view desk.new) tried) }
+        ensures makes { IfOk result (Makes (D.home desk.old) step_number (step.Acquire queue name at) self.old self.new (D.view desk.old) (D.view desk.new)) }
         ensures home { D.home desk.new ≡ D.home desk.old }
     {
         self.ask(
@@ -86,8 +82,7 @@ impl<B: TableName> Bindings<B> {
         requires frame { is_frame (name_in (holdings_of self.old) name) ≡ true }
         requires there { HasQueueOf (D.home desk.old) (name_in (holdings_of self.old) name) }
         requires points { ArePoints points.now }
-        ensures makes { IfOk result (λ tried. (pictures : ℕ → Picture) → MakesCall pictures
-            (D.home desk.old) self.old.by.0 step_number (step.Release name points.now) self.old self.new (D.view desk.old) (D.view desk.new) tried) }
+        ensures makes { IfOk result (Makes (D.home desk.old) step_number (step.Release name points.now) self.old self.new (D.view desk.old) (D.view desk.new)) }
         ensures home { D.home desk.new ≡ D.home desk.old }
     {
         let lease = self.take_frame(name);

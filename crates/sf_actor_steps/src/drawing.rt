@@ -9,6 +9,13 @@ use crate::tried::Tried;
 use sf_actor::{Desk, DrawFault, Held, Holding, Owing, Picture, TableName, TokensOf, WriteLease};
 use sf_base::{NoMemory, Seen, TimelineId};
 
+/// What is drawn, by what was seen of the timelines.
+#[derive(Clone, Copy)]
+struct Drawing<'a> {
+    picture: &'a Picture,
+    seen: &'a Seen,
+}
+
 /// Looks at the timelines.
 pub fn look<B: TableName, D: Desk<TokensOf<B>>>(desk: &mut D) -> Seen
     ensures sees { Sees (D.home desk.old) (D.view desk.old) (D.view desk.new) result }
@@ -52,15 +59,14 @@ impl<B: TableName> Bindings<B> {
         desk: &mut D,
         name: u32,
         lease: WriteLease<B>,
-        picture: &Picture,
-        seen: &Seen,
+        drawing: Drawing,
     ) -> Result<Tried, NoMemory>
-        requires fits { is_size_of picture.now lease.held ≡ true }
-        ensures tries { IfOk result (TriesDraw name picture.now seen.now (holding.Lends lease) self.old self.new (D.view desk.old) (D.view desk.new)) }
+        requires fits { is_size_of drawing.picture.now lease.held ≡ true }
+        ensures tries { IfOk result (TriesDraw name drawing.entry.picture.now drawing.entry.seen.now (holding.Lends lease) self.old self.new (D.view desk.old) (D.view desk.new)) }
         ensures turns { ChangesTurns (D.view desk.old) (D.view desk.new) }
         ensures home { D.home desk.new ≡ D.home desk.old }
     {
-        match desk.paint(self.alloc, lease, picture, seen) {
+        match desk.paint(self.alloc, lease, drawing.picture, drawing.seen) {
             Ok(lease) => {
                 self.names.put(name, Holding::Lends(lease));
                 Ok(Tried::Own(0))
@@ -81,15 +87,15 @@ impl<B: TableName> Bindings<B> {
         name: u32,
         owing: Owing<B>,
         held: Held,
-        picture: &Picture,
-        seen: &Seen,
+        drawing: Drawing,
     ) -> Result<Tried, NoMemory>
-        requires fits { picture.now ≡ owing.turn.promises }
-        ensures tries { IfOk result (TriesDraw name picture.now seen.now (holding.Owes owing held) self.old self.new (D.view desk.old) (D.view desk.new)) }
+        requires fits { drawing.picture.now ≡ owing.turn.promises }
+        ensures tries { IfOk result (TriesDraw name drawing.entry.picture.now drawing.entry.seen.now (holding.Owes owing held)
+            self.old self.new (D.view desk.old) (D.view desk.new)) }
         ensures turns { ChangesTurns (D.view desk.old) (D.view desk.new) }
         ensures home { D.home desk.new ≡ D.home desk.old }
     {
-        match desk.pay(self.alloc, owing, picture, seen) {
+        match desk.pay(self.alloc, owing, drawing.picture, drawing.seen) {
             Ok(()) => Ok(Tried::Own(0)),
             Err(DrawFault::NotYet(owing)) => {
                 self.names.put(name, Holding::Owes(owing, held));
@@ -112,9 +118,13 @@ impl<B: TableName> Bindings<B> {
         ensures home { D.home desk.new ≡ D.home desk.old }
     {
         let seen = look(desk);
+        let drawing = Drawing {
+            picture,
+            seen: &seen,
+        };
         match self.names.take(name) {
-            Some(Holding::Lends(lease)) => self.paint(desk, name, lease, picture, &seen),
-            Some(Holding::Owes(owing, held)) => self.pay(desk, name, owing, held, picture, &seen),
+            Some(Holding::Lends(lease)) => self.paint(desk, name, lease, drawing),
+            Some(Holding::Owes(owing, held)) => self.pay(desk, name, owing, held, drawing),
             _other => unreachable!(),
         }
     }

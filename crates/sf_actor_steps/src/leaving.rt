@@ -4,7 +4,7 @@ ghost use Rattle.std.specs.Prelude.{◌≡◌};
 ghost use Rattle.std.specs.Option.{option_copied};
 ghost use Rattle.sf_actor_steps.specs.Leaving.{Looks, was_ok};
 
-use crate::asking::{Asking, moving, named};
+use crate::asking::{Asking, Move, moving, named};
 use crate::bindings::Bindings;
 use crate::drawing::look;
 use crate::refusal::BAD_VALUE;
@@ -37,16 +37,15 @@ impl<B: TableName> Bindings<B> {
     ghost use Rattle.std.specs.Prelude.{◌≡◌, ℕ, true, IfOk, None, get_or, length};
     ghost use Rattle.std.specs.Option.{option_copied};
     ghost use Rattle.sf_actor.specs.sf_picture.declared.picture.Picture.{Picture};
-    ghost use Rattle.sf_actor.specs.sf_script_scene.declared.step.Step.TheVariants as step;
     ghost use Rattle.sf_actor.specs.sf_surface.Marks.{PermitFits};
     ghost use Rattle.sf_actor.specs.Desks.{DeskHome, has_queue};
     ghost use Rattle.sf_actor.specs.Names.{name_in};
     ghost use Rattle.sf_actor.specs.Points.{frame_fence, requested_fence};
     ghost use Rattle.sf_actor_steps.specs.Calling.{with_held};
-    ghost use Rattle.sf_actor_steps.specs.Doing.{HasQueueOf, MakesCall};
+    ghost use Rattle.sf_actor_steps.specs.Doing.{HasQueueOf};
     ghost use Rattle.sf_actor_steps.specs.Forming.{FormsCall, detach_step};
     ghost use Rattle.sf_actor_steps.specs.Bindings.{holdings_of};
-    ghost use Rattle.sf_actor_steps.specs.Leaving.{Disconnects, TriesToLeave, holds_leaving, holds_lent, leaving_fence, let_go_of, without_lent};
+    ghost use Rattle.sf_actor_steps.specs.Leaving.{MakesDisconnect, TriesToDetach, holds_leaving, holds_lent, leaving_fence, let_go_of, without_lent};
 
     /// Drops what a name holds, if it is a lent buffer of a queue.
     fn drop_if_lent(&mut self, name: u32, queue: u32)
@@ -87,8 +86,7 @@ impl<B: TableName> Bindings<B> {
         requires served { (D.home desk.old).serves self.old.by.0 ≡ true }
         requires there { has_queue (D.home desk.old) queue ≡ true }
         requires names { length self.old.names ≡ 32 }
-        ensures makes { IfOk result (λ tried. (pictures : ℕ → Picture) → Disconnects pictures
-            (D.home desk.old) self.old.by.0 step_number (step.Disconnect queue) queue self.old self.new (D.view desk.old) (D.view desk.new) tried) }
+        ensures makes { IfOk result (MakesDisconnect (D.home desk.old) step_number queue self.old self.new (D.view desk.old) (D.view desk.new)) }
         ensures home { D.home desk.new ≡ D.home desk.old }
     {
         let tried = self.ask(
@@ -137,13 +135,14 @@ impl<B: TableName> Bindings<B> {
     }
 
     /// The call that takes a buffer out of its queue: a frame's, or a lent one.
-    fn leaving_call(&mut self, from: u32, to: u32, reads: bool) -> Asking<B>
-        requires held { holds_leaving reads (name_in (holdings_of self.old) from) ≡ true }
-        ensures forms { (pictures : ℕ → Picture) → FormsCall pictures (detach_step reads from to) self.old self.new result }
-        ensures there { (home : DeskHome) → HasQueueOf home (name_in (holdings_of self.old) from) → has_queue home result.queue.0 ≡ true }
+    fn leaving_call(&mut self, names: Move, reads: bool) -> Asking<B>
+        requires held { holds_leaving reads (name_in (holdings_of self.old) names.from) ≡ true }
+        ensures forms { (pictures : ℕ → Picture) → FormsCall pictures (detach_step reads names.from names.to) self.old self.new result }
+        ensures there { (home : DeskHome) → HasQueueOf home (name_in (holdings_of self.old) names.from) → has_queue home result.queue.0 ≡ true }
         ensures permit { PermitFits B.table result.call }
         ensures by { self.new.by ≡ self.old.by }
     {
+        let Move { from, to } = names;
         if reads {
             let lease = self.take_frame(from);
             let (queue, held) = (lease.queue, lease.held);
@@ -161,22 +160,20 @@ impl<B: TableName> Bindings<B> {
         &mut self,
         desk: &mut D,
         step_number: u32,
-        from: u32,
-        to: u32,
+        names: Move,
         reads: bool,
     ) -> Result<Tried, NoMemory>
         requires served { (D.home desk.old).serves self.old.by.0 ≡ true }
-        requires held { holds_leaving reads (name_in (holdings_of self.old) from) ≡ true }
-        requires there { HasQueueOf (D.home desk.old) (name_in (holdings_of self.old) from) }
-        ensures tries { IfOk result (λ tried. (pictures : ℕ → Picture) → TriesToLeave pictures
-            (D.home desk.old) self.old.by.0 step_number (detach_step reads from to) (leaving_fence reads (name_in (holdings_of self.old) from)) self.old self.new
-            (D.view desk.old) (D.view desk.new) tried) }
+        requires held { holds_leaving reads (name_in (holdings_of self.old) names.from) ≡ true }
+        requires there { HasQueueOf (D.home desk.old) (name_in (holdings_of self.old) names.from) }
+        ensures tries { IfOk result (TriesToDetach (D.home desk.old) step_number reads names.from names.to
+            self.old self.new (D.view desk.old) (D.view desk.new)) }
         ensures home { D.home desk.new ≡ D.home desk.old }
     {
-        if is_open(desk, self.leaving_fence(from, reads)) {
+        if is_open(desk, self.leaving_fence(names.from, reads)) {
             return Ok(Tried::Own(BAD_VALUE));
         }
-        let asking = self.leaving_call(from, to, reads);
+        let asking = self.leaving_call(names, reads);
         self.ask(desk, step_number, asking)
     }
 }

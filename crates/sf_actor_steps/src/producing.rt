@@ -5,13 +5,30 @@ use crate::tried::Tried;
 use sf_actor::{Desk, Picture, Points, QCall, TableName, TokensOf};
 use sf_base::{NoMemory, QueueId};
 
+/// What a step asks of a dequeue: a buffer of this size in pixels, if it names one, and whether to wait
+/// until there is one.
+#[derive(Clone, Copy)]
+pub struct DequeueInput {
+    pub size: Option<(u32, u32)>,
+    pub wait: bool,
+}
+
+/// What a step queues a frame with: its picture, its desired present time in nanoseconds, the part to
+/// show, and the points of its acquire fence.
+#[derive(Clone, Copy)]
+pub struct QueueInput<'a> {
+    pub picture: &'a Picture,
+    pub time: Option<u64>,
+    pub crop: Option<(u32, u32, u32, u32)>,
+    pub points: &'a Points,
+}
+
 impl<B: TableName> Bindings<B> {
-    ghost use Rattle.std.specs.Prelude.{◌≡◌, ◌<◌, ℕ, true, length, IfOk};
-    ghost use Rattle.sf_actor.specs.sf_picture.declared.picture.Picture.{Picture};
+    ghost use Rattle.std.specs.Prelude.{◌≡◌, ◌<◌, true, length, IfOk};
     ghost use Rattle.sf_actor.specs.sf_script_scene.declared.step.Step.TheVariants as step;
     ghost use Rattle.sf_actor.specs.Desks.{has_queue};
     ghost use Rattle.sf_actor.specs.Names.{is_lent, name_in};
-    ghost use Rattle.sf_actor_steps.specs.Doing.{HasQueueOf, MakesCall};
+    ghost use Rattle.sf_actor_steps.specs.Doing.{HasQueueOf, Makes, MakesQueue};
     ghost use Rattle.sf_actor_steps.specs.Forming.{AreOfTable, ArePoints, IsCrop, dequeue_step, permits_of};
     ghost use Rattle.sf_actor_steps.specs.Bindings.{holdings_of};
 
@@ -24,8 +41,7 @@ impl<B: TableName> Bindings<B> {
     ) -> Result<Tried, NoMemory>
         requires served { (D.home desk.old).serves self.old.by.0 ≡ true }
         requires there { has_queue (D.home desk.old) queue ≡ true }
-        ensures makes { IfOk result (λ tried. (pictures : ℕ → Picture) → MakesCall pictures
-            (D.home desk.old) self.old.by.0 step_number (step.Connect queue) self.old self.new (D.view desk.old) (D.view desk.new) tried) }
+        ensures makes { IfOk result (Makes (D.home desk.old) step_number (step.Connect queue) self.old self.new (D.view desk.old) (D.view desk.new)) }
         ensures home { D.home desk.new ≡ D.home desk.old }
     {
         self.ask(desk, step_number, named(QueueId(queue), 0, QCall::Connect))
@@ -41,8 +57,7 @@ impl<B: TableName> Bindings<B> {
     ) -> Result<Tried, NoMemory>
         requires served { (D.home desk.old).serves self.old.by.0 ≡ true }
         requires there { has_queue (D.home desk.old) queue ≡ true }
-        ensures makes { IfOk result (λ tried. (pictures : ℕ → Picture) → MakesCall pictures
-            (D.home desk.old) self.old.by.0 step_number (step.MaxDequeued queue n) self.old self.new (D.view desk.old) (D.view desk.new) tried) }
+        ensures makes { IfOk result (Makes (D.home desk.old) step_number (step.MaxDequeued queue n) self.old self.new (D.view desk.old) (D.view desk.new)) }
         ensures home { D.home desk.new ≡ D.home desk.old }
     {
         self.ask(
@@ -62,8 +77,7 @@ impl<B: TableName> Bindings<B> {
     ) -> Result<Tried, NoMemory>
         requires served { (D.home desk.old).serves self.old.by.0 ≡ true }
         requires there { has_queue (D.home desk.old) queue ≡ true }
-        ensures makes { IfOk result (λ tried. (pictures : ℕ → Picture) → MakesCall pictures
-            (D.home desk.old) self.old.by.0 step_number (step.Async queue on) self.old self.new (D.view desk.old) (D.view desk.new) tried) }
+        ensures makes { IfOk result (Makes (D.home desk.old) step_number (step.Async queue on) self.old self.new (D.view desk.old) (D.view desk.new)) }
         ensures home { D.home desk.new ≡ D.home desk.old }
     {
         self.ask(
@@ -81,23 +95,21 @@ impl<B: TableName> Bindings<B> {
         step_number: u32,
         queue: u32,
         name: u32,
-        size: Option<(u32, u32)>,
-        wait: bool,
+        input: DequeueInput,
     ) -> Result<Tried, NoMemory>
         requires served { (D.home desk.old).serves self.old.by.0 ≡ true }
         requires there { has_queue (D.home desk.old) queue ≡ true }
         requires left { 0 < length (permits_of self.old) }
         requires table { AreOfTable B.table self.old }
-        ensures makes { IfOk result (λ tried. (pictures : ℕ → Picture) → MakesCall pictures
-            (D.home desk.old) self.old.by.0 step_number (dequeue_step wait queue name size) self.old self.new (D.view desk.old) (D.view desk.new) tried) }
+        ensures makes { IfOk result (Makes (D.home desk.old) step_number (dequeue_step input.wait queue name input.size) self.old self.new (D.view desk.old) (D.view desk.new)) }
         ensures home { D.home desk.new ≡ D.home desk.old }
     {
-        let (width, height) = size.unwrap_or((0, 0));
+        let (width, height) = input.size.unwrap_or((0, 0));
         let permit = self.take_permit()?;
         let call = QCall::Dequeue {
             width,
             height,
-            wait,
+            wait: input.wait,
             permit,
         };
         self.ask(desk, step_number, named(QueueId(queue), name, call))
@@ -113,8 +125,7 @@ impl<B: TableName> Bindings<B> {
         requires served { (D.home desk.old).serves self.old.by.0 ≡ true }
         requires lent { is_lent (name_in (holdings_of self.old) name) ≡ true }
         requires there { HasQueueOf (D.home desk.old) (name_in (holdings_of self.old) name) }
-        ensures makes { IfOk result (λ tried. (pictures : ℕ → Picture) → MakesCall pictures
-            (D.home desk.old) self.old.by.0 step_number (step.Request name) self.old self.new (D.view desk.old) (D.view desk.new) tried) }
+        ensures makes { IfOk result (Makes (D.home desk.old) step_number (step.Request name) self.old self.new (D.view desk.old) (D.view desk.new)) }
         ensures home { D.home desk.new ≡ D.home desk.old }
     {
         let lease = self.take_lent(name);
@@ -138,8 +149,7 @@ impl<B: TableName> Bindings<B> {
         requires lent { is_lent (name_in (holdings_of self.old) name) ≡ true }
         requires there { HasQueueOf (D.home desk.old) (name_in (holdings_of self.old) name) }
         requires points { ArePoints points.now }
-        ensures makes { IfOk result (λ tried. (pictures : ℕ → Picture) → MakesCall pictures
-            (D.home desk.old) self.old.by.0 step_number (step.Cancel name points.now) self.old self.new (D.view desk.old) (D.view desk.new) tried) }
+        ensures makes { IfOk result (Makes (D.home desk.old) step_number (step.Cancel name points.now) self.old self.new (D.view desk.old) (D.view desk.new)) }
         ensures home { D.home desk.new ≡ D.home desk.old }
     {
         let lease = self.take_lent(name);
@@ -154,27 +164,21 @@ impl<B: TableName> Bindings<B> {
         desk: &mut D,
         step_number: u32,
         name: u32,
-        picture: &Picture,
-        time: Option<u64>,
-        crop: Option<(u32, u32, u32, u32)>,
-        points: &Points,
+        input: QueueInput,
     ) -> Result<Tried, NoMemory>
         requires served { (D.home desk.old).serves self.old.by.0 ≡ true }
         requires lent { is_lent (name_in (holdings_of self.old) name) ≡ true }
         requires there { HasQueueOf (D.home desk.old) (name_in (holdings_of self.old) name) }
-        requires points { ArePoints points.now }
-        requires crop { IsCrop crop }
-        ensures makes { IfOk result (λ tried. (pictures : ℕ → Picture) (number : ℕ) → pictures number ≡ picture.now → MakesCall pictures
-            (D.home desk.old) self.old.by.0 step_number (step.Queue name number time crop points.now) self.old self.new (D.view desk.old) (D.view desk.new) tried) }
+        requires points { ArePoints input.points.now }
+        requires crop { IsCrop input.crop }
+        ensures makes { IfOk result (MakesQueue (D.home desk.old) step_number name input.entry.picture.now input.entry.time input.entry.crop input.entry.points.now
+            self.old self.new (D.view desk.old) (D.view desk.new)) }
         ensures home { D.home desk.new ≡ D.home desk.old }
     {
-        let picture = picture.copy(self.alloc)?;
-        let fence = fence_of(self.alloc, points)?;
+        let picture = input.picture.copy(self.alloc)?;
+        let fence = fence_of(self.alloc, input.points)?;
         let lease = self.take_lent(name);
-        self.ask(
-            desk,
-            step_number,
-            queueing(name, lease, picture, time, crop, fence),
-        )
+        let asking = queueing(name, lease, picture, input.time, input.crop, fence);
+        self.ask(desk, step_number, asking)
     }
 }

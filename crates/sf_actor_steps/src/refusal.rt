@@ -79,7 +79,7 @@ impl<B: TableName> Bindings<B> {
     ghost use Rattle.sf_actor.specs.Tests.{is_taken, refusal_of};
     ghost use Rattle.sf_actor.specs.sf_script_scene.Named.{KnowsPicture};
     ghost use Rattle.sf_actor.specs.sf_script_scene.Scene.{has_picture};
-    ghost use Rattle.sf_actor_steps.specs.Bindings.{holdings_of, lent_of, owing_of, shown_of};
+    ghost use Rattle.sf_actor_steps.specs.Bindings.{holdings_of, lent_of, merge_refusal, owing_of, queue_refusal, shown_of};
 
     /// Whether a name holds something.
     fn holds(&self, name: u32) -> bool
@@ -190,8 +190,7 @@ impl<B: TableName> Bindings<B> {
 
     /// The tests of a step that queues.
     fn queue_refusal(&self, name: u32, picture: u32) -> Option<u32>
-        ensures { result ≡ (if not (is_lent (name_in (holdings_of self.now) name)) then Some 15 else if shows_other picture (name_in (holdings_of self.now) name)
-            then Some 11 else None) }
+        ensures { result ≡ queue_refusal (holdings_of self.now) name picture }
     {
         match self.lent(name) {
             Some(lease) => refused_if(shows_other(lease, picture), BAD_VALUE),
@@ -211,8 +210,7 @@ impl<B: TableName> Bindings<B> {
 
     /// The tests of a step that merges transactions.
     fn merge_refusal(&self, number: u32, other: u32) -> Option<u32>
-        ensures { result ≡ (if not (is_some (transaction_in (holdings_of self.now) number)) then Some 15
-            else if not (is_some (transaction_in (holdings_of self.now) other)) then Some 15 else if number == other then Some 11 else None) }
+        ensures { result ≡ merge_refusal (holdings_of self.now) number other }
     {
         if !self.fills(number) {
             return Some(EMPTY);

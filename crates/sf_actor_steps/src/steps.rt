@@ -1,6 +1,8 @@
 //! The choice of a step's form: from what a script says to the function that does it.
+use crate::asking::Move;
 use crate::bindings::Bindings;
 use crate::drawing::{is_below, look, signal};
+use crate::producing::{DequeueInput, QueueInput};
 use crate::refusal::picture_of;
 use crate::tried::Tried;
 use sf_actor::{Desk, Picture, Step, TableName, TokensOf};
@@ -57,29 +59,62 @@ impl<B: TableName> Bindings<B> {
             Step::MaxDequeued(queue, n) => self.limit_dequeued(desk, step_number, *queue, *n),
             Step::Async(queue, on) => self.set_async(desk, step_number, *queue, *on),
             Step::Dequeue(queue, name, size) => {
-                self.dequeue(desk, step_number, *queue, *name, *size, false)
+                let input = DequeueInput {
+                    size: *size,
+                    wait: false,
+                };
+                self.dequeue(desk, step_number, *queue, *name, input)
             }
             Step::DequeueWait(queue, name, size) => {
-                self.dequeue(desk, step_number, *queue, *name, *size, true)
+                let input = DequeueInput {
+                    size: *size,
+                    wait: true,
+                };
+                self.dequeue(desk, step_number, *queue, *name, input)
             }
             Step::Request(name) => self.request(desk, step_number, *name),
             Step::Draw(name, picture) => self.draw(desk, *name, picture_of(pictures, *picture)),
             Step::Queue(name, picture, time, crop, points) => {
-                let picture = picture_of(pictures, *picture);
-                self.queue(desk, step_number, *name, picture, *time, *crop, points)
+                let input = QueueInput {
+                    picture: picture_of(pictures, *picture),
+                    time: *time,
+                    crop: *crop,
+                    points,
+                };
+                self.queue(desk, step_number, *name, input)
             }
             Step::Cancel(name, points) => self.cancel(desk, step_number, *name, points),
-            Step::PDetach(from, to) => self.detach(desk, step_number, *from, *to, false),
+            Step::PDetach(from, to) => {
+                let names = Move {
+                    from: *from,
+                    to: *to,
+                };
+                self.detach(desk, step_number, names, false)
+            }
             Step::PAttach(queue, from, to) => {
-                self.attach(desk, step_number, *queue, *from, *to, false)
+                let names = Move {
+                    from: *from,
+                    to: *to,
+                };
+                self.attach(desk, step_number, *queue, names, false)
             }
             Step::MaxAcquired(queue, n) => self.limit_acquired(desk, step_number, *queue, *n),
             Step::Abandon(queue) => self.abandon(desk, step_number, *queue),
             Step::Acquire(queue, name, at) => self.acquire(desk, step_number, *queue, *name, *at),
             Step::Release(name, points) => self.release(desk, step_number, *name, points),
-            Step::CDetach(from, to) => self.detach(desk, step_number, *from, *to, true),
+            Step::CDetach(from, to) => {
+                let names = Move {
+                    from: *from,
+                    to: *to,
+                };
+                self.detach(desk, step_number, names, true)
+            }
             Step::CAttach(queue, from, to) => {
-                self.attach(desk, step_number, *queue, *from, *to, true)
+                let names = Move {
+                    from: *from,
+                    to: *to,
+                };
+                self.attach(desk, step_number, *queue, names, true)
             }
             Step::Signal(timeline, value) => Ok(self.signal(desk, *timeline, *value)),
             Step::Wait(timeline, value) => Ok(self.wait(desk, *timeline, *value)),

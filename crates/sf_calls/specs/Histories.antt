@@ -21,6 +21,10 @@ abbrev pub IsLegal : {C R : Type 0} → (List (Entry C R) → ℕ → C → Answ
 IsLegal answers [] = Unit {0}
 IsLegal answers (e ∷ earlier) = answers earlier e.by e.call (Replies e.reply) × IsLegal answers earlier
 
+-- A call of a caller, done after an old history, is the newest of the new one; its reply is one that the object of one thread answers, and fits.
+abbrev pub IsDone : {C R : Type 0} → (List (Entry C R) → ℕ → C → Answer R → Type 0) → Type 0 → ℕ → C → R → List (Entry C R) → List (Entry C R) → Type 0
+IsDone answers fits by call reply old new = (new ≡ entry by call reply ∷ old) × answers old by call (replies reply) × fits
+
 -- the history ys began as xs: xs are its earliest calls
 abbrev pub Begins : {A : Type 0} → List A → List A → Type 0
 Begins xs ys = (more : List _) × (ys ≡ more ++ xs)

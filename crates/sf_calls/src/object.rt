@@ -1,9 +1,9 @@
 //! What can lie under a lock: an object whose calls have a history. Queues and arrivals are such
 //! objects.
-ghost use Rattle.std.specs.Prelude.{◌≡◌, ℕ, List, ◌∷◌};
+ghost use Rattle.std.specs.Prelude.{◌≡◌, ℕ, List};
 ghost use Rattle.sf_calls.specs.declared.object.Answer.{Answer};
 ghost use Rattle.sf_calls.specs.declared.object.Entry.{Entry};
-ghost use Rattle.sf_calls.specs.Histories.{IsLegal, entry, replies, waits};
+ghost use Rattle.sf_calls.specs.Histories.{IsDone, IsLegal, waits};
 ghost use Rattle.sf_calls.specs.Outcomes.{IfDone, IfNotYet, IfNoMemory};
 
 /// A call in an object's history: its caller's number, and what the history keeps of the call
@@ -75,10 +75,8 @@ pub trait Object: Sized {
     fn apply(&mut self, by: u32, call: Self::Call) -> Outcome<Self::Call, Self::Reply>
         requires { call_fits (mark self.old) call }
         ensures mark { mark self.new ≡ mark self.old }
-        ensures done { IfDone result (λ r.
-            (history self.new ≡ entry by (plain_call call) (plain_reply r) ∷ history self.old)
-            × answers (mark self.old) (history self.old) by (plain_call call) (replies (plain_reply r))
-            × reply_fits (mark self.old) r) }
+        ensures done { IfDone result (λ r. IsDone (answers (mark self.old)) (reply_fits (mark self.old) r)
+            by (plain_call call) (plain_reply r) (history self.old) (history self.new)) }
         ensures not_yet { IfNotYet result (λ back. (self.new ≡ self.old) × (back ≡ call)
             × answers (mark self.old) (history self.old) by (plain_call call) waits) }
         ensures no_memory { IfNoMemory result (λ back. (self.new ≡ self.old) × (back ≡ call)) };

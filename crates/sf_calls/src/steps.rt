@@ -2,7 +2,7 @@
 ghost use Rattle.std.specs.Prelude.{◌≡◌, ◌≢◌, List, ℕ, ◌+◌, true, false, [], ◌∷◌, ◌++◌, Some, None, IfSome, Contains};
 ghost use Rattle.sf_calls.specs.declared.object.Entry.{Entry};
 ghost use Rattle.sf_calls.specs.Histories.{IsLegal, Begins, calls_by};
-ghost use Rattle.sf_calls.specs.inner.Rule.{giving, given, met};
+ghost use Rattle.sf_calls.specs.inner.Rule.{giving, given, met, passed_on};
 
 use crate::lock::{CallLock, held};
 use crate::object::Object;
@@ -109,17 +109,7 @@ impl<O: Object> CallLock<O> {
         requires grown { (new : List (Entry O.PlainCall O.PlainReply))
             × (O.history object ≡ new ++ seat.old.me.0.found)
             × ((b : ℕ) → b ≢ seat.old.me.0.by → calls_by b new ≡ []) }
-        ensures { (seat.new.table_id ≡ seat.old.table_id)
-            × (seat.new.me ≡ (
-              record seat.old.me.0 {
-                seen = O.history object;
-                turns = seat.old.me.0.turns + 1;
-                ticket = None;
-                inside = false;
-                found = O.history object;
-              },
-              [],
-            )) }
+        ensures { (seat.new.table_id ≡ seat.old.table_id) × (seat.new.me ≡ (passed_on (O.history object) seat.old.me.0, [])) }
     {
         no_object(self.table.shared.exchange(seat, 0, Some(object)));
         self.table.shared.fetch_add::<PassOn>(seat, 1, 1);

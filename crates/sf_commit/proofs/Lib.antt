@@ -12,5 +12,6 @@ pub mod PressedLemmas
 pub mod SettleLemmas
 pub mod StandingAlong
 pub mod StandingLemmas
+pub mod ValueLemmas
 pub mod VsyncLemmas
 pub use Rattle.sf_view.proofs.sf_tree_lemmas

@@ -12,8 +12,8 @@ ghost use Rattle.sf_commit_next.specs.sf_token.Pending.{Arrival, head_of, is_of}
 ghost use Rattle.sf_commit_next.specs.sf_txn.Transactions.{without_first};
 
 use crate::commit::Stage;
-use sf_base::{NoMemory, Seen, TokenId};
-use sf_commit_next::{Asking, Facts, Lease, Looks, TokenQueues, next_token};
+use sf_base::{NoMemory, TokenId};
+use sf_commit_next::{Asking, Facts, Instant, Lease, Looks, TokenQueues, next_token};
 use std::alloc::Global;
 
 /// The tokens with something pending.
@@ -56,21 +56,20 @@ pub(crate) fn decide<L: Lease + Drop>(
     queues: &mut TokenQueues<L>,
     facts: &mut Facts,
     looks: &[Looks],
-    seen: &Seen,
-    expected: u64,
+    instant: Instant,
 ) -> Result<(), NoMemory>
 where
     L::Reading: Drop,
     requires looked { All (IsLookedAt L.shown looks.now) queues.old.pending }
     requires rising { AreRising 0 looks.now }
     requires pressed { HasSame facts.old.pressed (pressed_in stage.old.tree.layers) }
-    ensures comes { OnOk result (Comes L.shown seen.now expected (round_of stage.old queues.old.pending facts.old)
+    ensures comes { OnOk result (Comes L.shown instant.entry.seen.now instant.entry.expected (round_of stage.old queues.old.pending facts.old)
         stage.new queues.new.pending facts.new) }
     ensures last { queues.new.last ≡ queues.old.last }
 {
     let alloc = stage.alloc;
     let mut asking = all_tokens(alloc, queues)?;
-    while let Some(token) = next_token(alloc, &mut asking, queues, looks, facts, seen, expected)? {
+    while let Some(token) = next_token(alloc, &mut asking, queues, looks, facts, instant)? {
         commit_first(stage, queues, facts, token)?;
     }
     Ok(())

@@ -16,12 +16,12 @@ use crate::commit::Stage;
 use crate::finish::{Settled, settle_all};
 use crate::follow::decide_all;
 use crate::keeping::KeptRead;
-use crate::lending::{Contents, Room, leave_unlent, mark_at_hand, mark_lent, put_back};
+use crate::lending::{Contents, Returned, Room, leave_unlent, mark_at_hand, mark_lent, put_back};
 use crate::opening::{Reading, gather};
 use crate::sources::{index_of_shown, sources};
 use crate::vsync::{Committed, Vsync};
 use sf_base::{Items, NoMemory, Seen};
-use sf_commit_next::{Arrived, Facts, Lease, TokenQueues};
+use sf_commit_next::{Arrived, Facts, Instant, Lease, TokenQueues};
 use sf_view::sf_layer::Shown;
 use sf_view::sf_picture::Painted;
 use sf_view::sf_tree::Tree;
@@ -173,16 +173,21 @@ where
         let readings = mem::replace(&mut self.on, Vec::new(alloc));
         let contents = mem::replace(&mut self.contents, Vec::new(alloc));
         let on = gather(alloc, readings, contents)?;
-        let (stage, held) = decide_all(
+        let begun = Stage {
             alloc,
             tree,
             on,
+            commits: Vec::new(alloc),
+            gone: Vec::new(alloc),
+        };
+        let instant = Instant { seen, expected };
+        let (stage, held) = decide_all(
+            begun,
             &mut self.queues,
             &mut self.facts,
             eye,
             arrived,
-            seen,
-            expected,
+            instant,
         )?;
         let Stage {
             tree,
@@ -284,14 +289,17 @@ where
         let alloc = self.alloc;
         let kept = mem::replace(&mut self.kept, Vec::new(alloc));
         let stayed = mem::replace(&mut self.contents, Vec::new(alloc));
+        let returned = Returned {
+            kept,
+            stayed,
+            list: contents.list,
+        };
         self.contents = put_back(
             alloc,
             eye,
-            kept,
             &mut self.room,
             &self.on,
-            stayed,
-            contents.list,
+            returned,
             self.has_changed,
         );
         mark_at_hand(&mut self.on);

@@ -5,8 +5,8 @@ ghost use Rattle.std.specs.Prelude.{◌≡◌, IfOk, find, map};
 ghost use Rattle.sf_commit.specs.inner.Holding.{AreLooks, held_of, hold_in, is_first, told_in};
 ghost use Rattle.sf_commit_next.specs.sf_token.Pending.{Arrival, has_number};
 
-use sf_base::{NoMemory, Seen};
-use sf_commit_next::{Arrived, Facts, Hold, Lease, Looks, TokenQueues, hold_of};
+use sf_base::NoMemory;
+use sf_commit_next::{Arrived, Facts, Hold, Instant, Lease, Looks, TokenQueues, hold_of};
 use std::alloc::Global;
 
 /// Whether a pending transaction is the first of its token.
@@ -22,14 +22,13 @@ fn hold_at<L: Lease + Drop>(
     arrived: &Arrived<L>,
     drawn: &[bool],
     facts: &Facts,
-    seen: &Seen,
-    expected: u64,
+    instant: Instant,
 ) -> Option<Hold>
     requires { drawn.now ≡ map (λ buffer. L.shown buffer.lease) arrived.now.txn.buffers }
-    ensures { result ≡ hold_in L.shown seen.now expected facts.now queues.now.pending arrived.now }
+    ensures { result ≡ hold_in L.shown instant.entry.seen.now instant.entry.expected facts.now queues.now.pending arrived.now }
 {
     if is_first(queues, arrived) {
-        hold_of(&arrived.txn, drawn, facts, seen, expected)
+        hold_of(&arrived.txn, drawn, facts, instant.seen, instant.expected)
     } else {
         Some(Hold::Behind)
     }
@@ -40,17 +39,16 @@ fn told_at<L: Lease + Drop>(
     queues: &TokenQueues<L>,
     look: &Looks,
     facts: &Facts,
-    seen: &Seen,
-    expected: u64,
+    instant: Instant,
 ) -> Option<(u32, Hold)>
     requires { IfSome (find (has_number look.now.number) queues.now.pending)
         (λ (a : Arrival L). look.now.drawn ≡ map (λ buffer. L.shown buffer.lease) a.txn.buffers) }
-    ensures { result ≡ option_and_then (told_in L.shown seen.now expected facts.now queues.now.pending)
+    ensures { result ≡ option_and_then (told_in L.shown instant.entry.seen.now instant.entry.expected facts.now queues.now.pending)
         (find (has_number look.now.number) queues.now.pending) }
 {
     let arrived = queues.get(look.number)?;
     let drawn = look.drawn.as_slice();
-    let hold = hold_at(queues, arrived, drawn, facts, seen, expected)?;
+    let hold = hold_at(queues, arrived, drawn, facts, instant)?;
     Some((arrived.number, hold))
 }
 
@@ -61,15 +59,14 @@ pub(crate) fn held<L: Lease + Drop>(
     queues: &TokenQueues<L>,
     looks: &[Looks],
     facts: &Facts,
-    seen: &Seen,
-    expected: u64,
+    instant: Instant,
 ) -> Result<Vec<(u32, Hold)>, NoMemory>
     requires { AreLooks L.Lease looks.now queues.now.pending }
-    ensures { IfOk result (λ held. held.items ≡ held_of L.shown seen.now expected facts.now queues.now.pending) }
+    ensures { IfOk result (λ held. held.items ≡ held_of L.shown instant.entry.seen.now instant.entry.expected facts.now queues.now.pending) }
 {
     let mut held = Vec::new(alloc);
     for look in looks {
-        if let Some(told) = told_at(queues, look, facts, seen, expected) {
+        if let Some(told) = told_at(queues, look, facts, instant) {
             held.push(told)?;
         }
     }

@@ -73,6 +73,16 @@ impl Room {
     }
 }
 
+/// What comes together when lent pixels come back.
+pub(crate) struct Returned<L: Lease> {
+    /// The reads that were kept for them.
+    pub kept: Vec<KeptRead<L>>,
+    /// The pixels that stayed at hand.
+    pub stayed: Vec<Painted>,
+    /// The pixels that were lent.
+    pub list: Vec<Painted>,
+}
+
 /// The pixels of all buffers on layers are lent, in their order.
 pub(crate) fn mark_lent<L: Lease>(on: &mut Vec<Reading<L>>)
     ensures { on.new.items ≡ lent_from 0 on.old.items }
@@ -216,23 +226,22 @@ fn collect<L: Lease + Drop>(
 fn take_back<L: Lease + Drop>(
     alloc: Global,
     eye: &mut L::Eye,
-    kept: Vec<KeptRead<L>>,
     room: &mut Room,
     on: &[Reading<L>],
-    stayed: Vec<Painted>,
-    list: Vec<Painted>,
+    returned: Returned<L>,
 ) -> Vec<Painted>
-    requires fits { AllKept (L.fits (L.mark eye.old)) kept.items }
-    requires lends { AreThere L.Lease (map (λ picture. Some picture) list.items) (kept.items ++ map read_of on.now) }
-    requires stayed { stayed.items ≡ pictures_here L.Lease on.now }
-    requires room { HasRoom (vec_len list) (length on.now) true (vec_len room.old.slots, vec_capacity room.old.slots)
+    requires fits { AllKept (L.fits (L.mark eye.old)) returned.kept.items }
+    requires lends { AreThere L.Lease (map (λ picture. Some picture) returned.list.items) (returned.kept.items ++ map read_of on.now) }
+    requires stayed { returned.stayed.items ≡ pictures_here L.Lease on.now }
+    requires room { HasRoom (vec_len returned.list) (length on.now) true (vec_len room.old.slots, vec_capacity room.old.slots)
         (vec_len room.old.contents, vec_capacity room.old.contents) }
     ensures contents { result.items ≡ pictures L.Lease on.now }
-    ensures reads { IsEyeAfter L.Lease eye.old eye.new (ends_of L.Lease kept.items) }
+    ensures reads { IsEyeAfter L.Lease eye.old eye.new (ends_of L.Lease returned.kept.items) }
     ensures no_slots { vec_len room.new.slots ≡ 0 }
     ensures slots { vec_capacity room.new.slots ≡ vec_capacity room.old.slots }
     ensures no_contents { vec_len room.new.contents ≡ 0 }
 {
+    let Returned { kept, stayed, list } = returned;
     spread(&mut room.slots, list);
     leave_all(eye, kept, &mut room.slots);
     let contents = mem::replace(&mut room.contents, Vec::new(alloc));
@@ -247,28 +256,31 @@ fn take_back<L: Lease + Drop>(
 pub(crate) fn put_back<L: Lease + Drop>(
     alloc: Global,
     eye: &mut L::Eye,
-    kept: Vec<KeptRead<L>>,
     room: &mut Room,
     on: &[Reading<L>],
-    stayed: Vec<Painted>,
-    list: Vec<Painted>,
+    returned: Returned<L>,
     has_changed: bool,
 ) -> Vec<Painted>
-    requires fits { AllKept (L.fits (L.mark eye.old)) kept.items }
-    requires lends { AreThere L.Lease (map (λ picture. Some picture) list.items) (kept.items ++ map read_of on.now) }
-    requires stayed { stayed.items ≡ pictures_here L.Lease on.now }
-    requires room { HasRoom (vec_len list) (length on.now) has_changed (vec_len room.old.slots, vec_capacity room.old.slots)
+    requires fits { AllKept (L.fits (L.mark eye.old)) returned.kept.items }
+    requires lends { AreThere L.Lease (map (λ picture. Some picture) returned.list.items) (returned.kept.items ++ map read_of on.now) }
+    requires stayed { returned.stayed.items ≡ pictures_here L.Lease on.now }
+    requires room { HasRoom (vec_len returned.list) (length on.now) has_changed (vec_len room.old.slots, vec_capacity room.old.slots)
         (vec_len room.old.contents, vec_capacity room.old.contents) }
-    requires unchanged { has_changed ≡ false → (list.items ≡ pictures L.Lease on.now) × (kept.items ≡ []) }
+    requires unchanged { has_changed ≡ false → (returned.list.items ≡ pictures L.Lease on.now) × (returned.kept.items ≡ []) }
     ensures contents { result.items ≡ pictures L.Lease on.now }
-    ensures reads { IsEyeAfter L.Lease eye.old eye.new (ends_of L.Lease kept.items) }
+    ensures reads { IsEyeAfter L.Lease eye.old eye.new (ends_of L.Lease returned.kept.items) }
     ensures no_slots { vec_len room.new.slots ≡ 0 }
     ensures slots { vec_capacity room.new.slots ≡ vec_capacity room.old.slots }
     ensures no_contents { vec_len room.new.contents ≡ 0 }
 {
     if has_changed {
-        return take_back(alloc, eye, kept, room, on, stayed, list);
+        return take_back(alloc, eye, room, on, returned);
     }
+    let Returned {
+        kept,
+        stayed: _,
+        list,
+    } = returned;
     kept.destroy_empty();
     list
 }

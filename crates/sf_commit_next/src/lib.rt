@@ -4,9 +4,11 @@
 #![tactic(auto)]
 
 mod asking;
+mod instant;
 mod next;
 
 pub use asking::Asking;
+pub use instant::Instant;
 pub use next::next_token;
 pub use sf_ready::{Facts, Hold, hold_of};
 pub use sf_token::{

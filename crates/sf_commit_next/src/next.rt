@@ -10,7 +10,8 @@ ghost use Rattle.sf_commit_next.specs.Next.{AreRising, IsLookedAt, IsNextToken, 
 ghost use Rattle.sf_commit_next.specs.Heads.{head_hold, ready_of};
 
 use crate::asking::Asking;
-use sf_base::{NoMemory, Seen, TokenId};
+use crate::instant::Instant;
+use sf_base::{NoMemory, TokenId};
 use sf_ready::{Facts, Hold, hold_of};
 use sf_token::{Arrived, Lease, Looks, TokenQueues};
 use std::alloc::Global;
@@ -42,15 +43,14 @@ fn first_hold<L: Lease + Drop>(
     arrived: &Arrived<L>,
     looks: &[Looks],
     facts: &Facts,
-    seen: &Seen,
-    expected: u64,
+    instant: Instant,
 ) -> Option<Hold>
     requires looked { IsLookedAt L.shown looks.now arrived.now }
     requires rising { AreRising 0 looks.now }
-    ensures { result ≡ head_hold L.shown seen.now expected facts.now arrived.now }
+    ensures { result ≡ head_hold L.shown instant.entry.seen.now instant.entry.expected facts.now arrived.now }
 {
     let drawn = drawn_at(looks, arrived.number);
-    hold_of(&arrived.txn, drawn, facts, seen, expected)
+    hold_of(&arrived.txn, drawn, facts, instant.seen, instant.expected)
 }
 
 /// What a hold says of the rest of a vsync: time, points and writes are as they were when it began.
@@ -71,15 +71,14 @@ fn ask<L: Lease + Drop>(
     token: TokenId,
     looks: &[Looks],
     facts: &Facts,
-    seen: &Seen,
-    expected: u64,
+    instant: Instant,
 ) -> Answer
     requires looked { All (IsLookedAt L.shown looks.now) queues.now.pending }
     requires rising { AreRising 0 looks.now }
-    ensures { IsAnswer L.shown seen.now expected facts.now queues.now.pending token result }
+    ensures { IsAnswer L.shown instant.entry.seen.now instant.entry.expected facts.now queues.now.pending token result }
 {
     match queues.head(token) {
-        Some(arrived) => answer_of(first_hold(arrived, looks, facts, seen, expected)),
+        Some(arrived) => answer_of(first_hold(arrived, looks, facts, instant)),
         None => Answer::Out,
     }
 }
@@ -92,18 +91,17 @@ fn first_ready<L: Lease + Drop>(
     queues: &TokenQueues<L>,
     looks: &[Looks],
     facts: &Facts,
-    seen: &Seen,
-    expected: u64,
+    instant: Instant,
 ) -> Result<Option<TokenId>, NoMemory>
     requires looked { All (IsLookedAt L.shown looks.now) queues.now.pending }
     requires rising { AreRising 0 looks.now }
     requires sorted { IsStrictlySortedBy nat_cmp (stopped.old.items ++ asking.old) }
-    requires asks { AsksEnough L.shown seen.now expected asking.old queues.now.pending }
-    ensures next { IfOk result (FindsNext L.shown seen.now expected facts.now queues.now.pending asking.new stopped.new.items) }
+    requires asks { AsksEnough L.shown instant.seen.now instant.expected asking.old queues.now.pending }
+    ensures next { IfOk result (FindsNext L.shown instant.entry.seen.now instant.entry.expected facts.now queues.now.pending asking.new stopped.new.items) }
     ensures sorted { OnOk result (IsStrictlySortedBy nat_cmp (stopped.new.items ++ asking.new)) }
 {
     while let Some(token) = asking.take_lowest() {
-        match ask(queues, token, looks, facts, seen, expected) {
+        match ask(queues, token, looks, facts, instant) {
             Answer::Ready => {
                 stopped.push(token.0)?;
                 return Ok(Some(token));
@@ -135,19 +133,18 @@ pub fn next_token<L: Lease + Drop>(
     queues: &TokenQueues<L>,
     looks: &[Looks],
     facts: &Facts,
-    seen: &Seen,
-    expected: u64,
+    instant: Instant,
 ) -> Result<Option<TokenId>, NoMemory>
     requires looked { All (IsLookedAt L.shown looks.now) queues.now.pending }
     requires rising { AreRising 0 looks.now }
-    requires asks { AsksEnough L.shown seen.now expected asking.old queues.now.pending }
-    ensures next { IfOk result (IsNextToken (ready_of L.shown seen.now expected facts.now queues.now.pending)) }
-    ensures asks { OnOk result (AsksEnough L.shown seen.now expected asking.new queues.now.pending) }
+    requires asks { AsksEnough L.shown instant.seen.now instant.expected asking.old queues.now.pending }
+    ensures next { IfOk result (IsNextToken (ready_of L.shown instant.entry.seen.now instant.entry.expected facts.now queues.now.pending)) }
+    ensures asks { OnOk result (AsksEnough L.shown instant.entry.seen.now instant.entry.expected asking.new queues.now.pending) }
     ensures among { IfOk result (λ next. IfSome next (λ token. has_token asking.new token ≡ true)) }
 {
     asking.rises();
     let mut stopped = Vec::new(alloc);
-    let next = first_ready(asking, &mut stopped, queues, looks, facts, seen, expected)?;
+    let next = first_ready(asking, &mut stopped, queues, looks, facts, instant)?;
     ask_again(asking, stopped)?;
     Ok(next)
 }

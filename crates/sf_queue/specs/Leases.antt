@@ -1,11 +1,15 @@
 -- The lease that a producer means by a slot and a buffer's number.
 use Rattle.std.specs.Prelude.{◌≡◌, ◌<◌, ℕ, Bool, true, false, ◌==◌, if◌then◌else◌, Option, Some, None}
 use Rattle.sf_base.specs.Fences.{no_points}
+use Rattle.sf_base.specs.declared.ids.ActorId.{ActorId}
 use Rattle.sf_base.specs.declared.ids.SlotId.{SlotId}
 use Rattle.sf_slots.specs.declared.calls.PlainCall.{PlainCall}
 use Rattle.sf_slots.specs.declared.calls.PlainCall.TheVariants as call
+use Rattle.sf_slots.specs.declared.calls.PlainReply.{PlainReply}
 use Rattle.sf_slots.specs.declared.calls.WriteToken.{WriteToken}
 use Rattle.sf_slots.specs.declared.slot.Held.{Held}
+use Rattle.sf_slots.specs.Queue.{Queue, told_of}
+use Rattle.sf_slots.specs.Tells.{Continues}
 use Rattle.sf_slots.specs.Told.{Told, slot_at}
 use Rattle.sf_slots.specs.Replies.{is_lent}
 use Rattle.sf_slots.specs.declared.slot.SlotState.TheVariants.{Dequeued}
@@ -32,6 +36,11 @@ pub record IsLeaseOf (told : Told) (place : SlotId) (number : ℕ) (lease : Writ
   pub slot : lease.slot ≡ place
   pub numbered : lease.held.number ≡ number
   pub whole : (held : Held) → (slot_at told place.0).held ≡ Some held → held.number ≡ number → lease.held ≡ held
+
+-- whichever lease says the slot and the buffer that are meant, the history of a queue goes on with the call of that lease and this reply
+abbrev pub ContinuesFor : {R : Type 0} → Queue R → Queue R → ActorId → SlotId → ℕ → (WriteToken → PlainCall) → PlainReply → Type 0
+ContinuesFor before after by slot number asked told =
+    (lease : WriteToken) → IsLeaseOf (told_of before) slot number lease → Continues before after by (asked lease) told
 
 -- cancelling, or detaching, which needs a requested buffer
 abbrev pub lent_call : Bool → WriteToken → PlainCall

@@ -10,7 +10,7 @@ ghost use Rattle.sf_slots.specs.Told.{slot_at};
 ghost use Rattle.sf_slots.specs.Replies.{refusal_of, refused_or, is_lent};
 ghost use Rattle.sf_slots.specs.Tells.{Continues};
 ghost use Rattle.sf_slots.specs.Effects.{refusal_in, refusal_with};
-ghost use Rattle.sf_queue.specs.Leases.{lease_of, lent_call, meant, FindsLent, IsLentThere, IsLeaseOf};
+ghost use Rattle.sf_queue.specs.Leases.{lease_of, lent_call, meant, ContinuesFor, FindsLent, IsLentThere, IsLeaseOf};
 ghost use Rattle.sf_base.specs.Fences.{no_points};
 
 use crate::connection::is_producer;
@@ -138,9 +138,7 @@ pub fn cancel<R: Drop>(
     ensures back { IfErr result (λ refused. refused.1 ≡ (right, fence)) }
     ensures unchanged { OnErr result (q.new ≡ q.old) }
     ensures done { OnOk result (q.new ≡ returned q.old slot.0 right fence) }
-    ensures history { (lease : WriteToken) → IsLeaseOf (told_of q.old) slot buffer lease →
-        Continues q.old q.new by (call.Cancel lease fence)
-        (refused_or (refusal_with result) reply.Done) }
+    ensures history { ContinuesFor q.old q.new by slot buffer (λ lease. call.Cancel lease fence) (refused_or (refusal_with result) reply.Done) }
 {
     match lent_to(q, by, slot, buffer) {
         Ok(_) => {
@@ -165,8 +163,7 @@ pub fn detach<R: Drop>(
     ensures refusal { refusal_in result ≡ refusal_of (told_of q.old) by (call.Detach (lease_of (told_of q.old) slot buffer)) }
     ensures unchanged { OnErr result (q.new ≡ q.old) }
     ensures done { OnOk result (q.new ≡ cleared q.old slot.0) }
-    ensures history { (lease : WriteToken) → IsLeaseOf (told_of q.old) slot buffer lease →
-        Continues q.old q.new by (call.Detach lease) (refused_or (refusal_in result) reply.Done) }
+    ensures history { ContinuesFor q.old q.new by slot buffer (λ lease. call.Detach lease) (refused_or (refusal_in result) reply.Done) }
 {
     match requested_by(q, by, slot, buffer) {
         Ok(_) => {
@@ -189,8 +186,7 @@ pub fn cancel_allowed<R: Drop>(
 )
     requires { refusal_of (told_of q.old) by (lent_call false (lease_of (told_of q.old) slot buffer)) ≡ None }
     ensures done { q.new ≡ returned q.old slot.0 right fence }
-    ensures history { (lease : WriteToken) → IsLeaseOf (told_of q.old) slot buffer lease →
-        Continues q.old q.new by (call.Cancel lease fence) reply.Done }
+    ensures history { ContinuesFor q.old q.new by slot buffer (λ lease. call.Cancel lease fence) reply.Done }
 {
     match cancel(q, by, slot, buffer, right, fence) {
         Ok(()) => {}
@@ -203,8 +199,7 @@ pub fn cancel_allowed<R: Drop>(
 pub fn detach_allowed<R: Drop>(q: &mut Slots<R>, by: ActorId, slot: SlotId, buffer: u64)
     requires { refusal_of (told_of q.old) by (lent_call true (lease_of (told_of q.old) slot buffer)) ≡ None }
     ensures done { q.new ≡ cleared q.old slot.0 }
-    ensures history { (lease : WriteToken) → IsLeaseOf (told_of q.old) slot buffer lease →
-        Continues q.old q.new by (call.Detach lease) reply.Done }
+    ensures history { ContinuesFor q.old q.new by slot buffer (λ lease. call.Detach lease) reply.Done }
 {
     match detach(q, by, slot, buffer) {
         Ok(()) => {}

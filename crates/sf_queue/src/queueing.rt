@@ -2,12 +2,10 @@
 ghost use Rattle.std.specs.Prelude.{◌≡◌, ◌<◌, ◌-◌, ◌^◌, OnOk, OnErr, IfErr, IfOk, None, ◌+◌, ◌+ℤ◌, pos, int_le};
 ghost use Rattle.sf_slots.specs.declared.calls.PlainCall.TheVariants as call;
 ghost use Rattle.sf_slots.specs.declared.calls.PlainReply.TheVariants as reply;
-ghost use Rattle.sf_slots.specs.declared.calls.WriteToken.{WriteToken};
 ghost use Rattle.sf_slots.specs.Queue.{told_of, enqueued, IsSound};
 ghost use Rattle.sf_slots.specs.Replies.{refusal_of, refused_or, is_crop_of};
-ghost use Rattle.sf_slots.specs.Tells.{Continues};
 ghost use Rattle.sf_slots.specs.Effects.{refusal_in, refusal_with};
-ghost use Rattle.sf_queue.specs.Leases.{lease_of, meant, IsLentThere, IsLeaseOf};
+ghost use Rattle.sf_queue.specs.Leases.{lease_of, meant, ContinuesFor, IsLentThere};
 ghost use Rattle.sf_queue.specs.Orders.{queue_call, order_call, call_of, item_of};
 
 use crate::leases::lent_to;
@@ -29,6 +27,14 @@ pub struct QueueOrder<R> {
     pub kept: Fence,
     pub crop: Rect,
     pub right: R,
+}
+
+/// The size of a frame's picture in pixels, and the part of it to show.
+#[derive(Clone, Copy)]
+struct CroppedSize {
+    width: u32,
+    height: u32,
+    crop: Rect,
 }
 
 /// Whether a coordinate is not before the buffer's first.
@@ -55,17 +61,15 @@ fn is_crop_of(held: &Held, crop: Rect) -> bool
                 && ends_within(crop.y, crop.height, held.height)))
 }
 
-/// The buffer that a frame may be queued from.
+/// The buffer that a frame may be queued from, whose picture has this size and this crop.
 fn queueable<R: Drop>(
     q: &Slots<R>,
     by: ActorId,
     slot: SlotId,
     buffer: u64,
-    width: u32,
-    height: u32,
-    crop: Rect,
+    size: CroppedSize,
 ) -> Result<Held, QStatus>
-    ensures refusal { refusal_in result ≡ refusal_of (told_of q.now) by (queue_call (lease_of (told_of q.now) slot buffer) width height crop) }
+    ensures refusal { refusal_in result ≡ refusal_of (told_of q.now) by (queue_call (lease_of (told_of q.now) slot buffer) size.width size.height size.crop) }
     ensures there { IfOk result (IsLentThere (told_of q.now) slot buffer) }
     ensures sound { IsSound q.now }
 {
@@ -73,9 +77,9 @@ fn queueable<R: Drop>(
         Ok(held) => {
             if !q.slot(slot).requested {
                 Err(QStatus::BadValue)
-            } else if !(width == held.width && height == held.height) {
+            } else if !(size.width == held.width && size.height == held.height) {
                 Err(QStatus::BadValue)
-            } else if !is_crop_of(&held, crop) {
+            } else if !is_crop_of(&held, size.crop) {
                 Err(QStatus::BadValue)
             } else {
                 Ok(held)
@@ -97,7 +101,12 @@ pub fn queue_refusal<R: Drop>(
 ) -> Option<QStatus>
     ensures { result ≡ refusal_of (told_of q.now) by (queue_call (lease_of (told_of q.now) slot buffer) width height crop) }
 {
-    match queueable(q, by, slot, buffer, width, height, crop) {
+    let size = CroppedSize {
+        width,
+        height,
+        crop,
+    };
+    match queueable(q, by, slot, buffer, size) {
         Ok(_) => None,
         Err(refused) => Some(refused),
     }
@@ -122,20 +131,15 @@ pub fn queue<R: Drop>(
     ensures frame { IfOk result (λ frame. frame ≡ q.old.settings.frames + 1) }
     ensures unchanged { OnErr result (q.new ≡ q.old) }
     ensures done { OnOk result (q.new ≡ enqueued q.old (item_of q.old order)) }
-    ensures history { (lease : WriteToken) → IsLeaseOf (told_of q.old) order.slot order.buffer lease →
-        Continues q.old q.new by (call_of order lease)
+    ensures history { ContinuesFor q.old q.new by order.slot order.buffer (call_of order)
         (refused_or (refusal_with result) (reply.Queued (q.old.settings.frames + 1))) }
 {
-    let found = queueable(
-        q,
-        by,
-        order.slot,
-        order.buffer,
-        order.width,
-        order.height,
-        order.crop,
-    );
-    match found {
+    let size = CroppedSize {
+        width: order.width,
+        height: order.height,
+        crop: order.crop,
+    };
+    match queueable(q, by, order.slot, order.buffer, size) {
         Ok(held) => Ok(put(q, order, held)),
         Err(refused) => Err((refused, order)),
     }
@@ -186,8 +190,7 @@ pub fn queue_allowed<R: Drop>(q: &mut Slots<R>, by: ActorId, order: QueueOrder<R
     requires allowed { refusal_of (told_of q.old) by (order_call (told_of q.old) order) ≡ None }
     ensures frame { result ≡ q.old.settings.frames + 1 }
     ensures done { q.new ≡ enqueued q.old (item_of q.old order) }
-    ensures history { (lease : WriteToken) → IsLeaseOf (told_of q.old) order.slot order.buffer lease →
-        Continues q.old q.new by (call_of order lease) (reply.Queued (q.old.settings.frames + 1)) }
+    ensures history { ContinuesFor q.old q.new by order.slot order.buffer (call_of order) (reply.Queued (q.old.settings.frames + 1)) }
 {
     match lent_to(q, by, order.slot, order.buffer) {
         Ok(held) => put(q, order, held),

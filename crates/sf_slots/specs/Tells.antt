@@ -33,3 +33,7 @@ CameBy {R} start (entry ∷ earlier) after = (before : Queue R) × (CameBy start
 abbrev pub AreReplies : ℕ → ℕ → List Entry → Type 0
 AreReplies width height [] = Unit {0}
 AreReplies width height (entry ∷ earlier) = (entry.reply ≡ reply_after width height earlier entry.caller entry.call) × (AreReplies width height earlier)
+
+-- a history gives the queue, and each reply is what the history before it says
+abbrev pub IsItsHistory : {R : Type 0} → Queue R → ℕ → ℕ → List Entry → Type 0
+IsItsHistory after width height history = (IsToldBy after width height history) × (AreReplies width height history)

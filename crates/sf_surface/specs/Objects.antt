@@ -1,20 +1,22 @@
 -- A queue with the history of its calls, and what a call on it does.
-use Rattle.std.specs.Prelude.{◌≡◌, ℕ, ◌<◌, List, ◌∷◌, Option, Some}
+use Rattle.std.specs.Prelude.{◌≡◌, ℕ, ◌<◌, true, List, ◌∷◌, Option, Some}
 use Rattle.std.specs.List.{All}
 use Rattle.atomic_table.specs.Seated.{TableId}
 use Rattle.sf_base.specs.declared.ids.ActorId.{ActorId}
 use Rattle.sf_base.specs.declared.ids.QueueId.{QueueId}
+use Rattle.sf_base.specs.declared.status.QStatus.TheVariants.{WouldBlock}
 use Rattle.sf_calls.specs.Histories.{IsLegal, entry}
 use Rattle.sf_slots.specs.declared.calls.PlainReply.{PlainReply}
 use Rattle.sf_slots.specs.declared.item.Item.{Item}
 use Rattle.sf_slots.specs.declared.slot.Held.{Held}
-use Rattle.sf_slots.specs.Queue.{Queue, slot_in, right_in}
+use Rattle.sf_slots.specs.Queue.{Queue, slot_in, right_in, told_of}
+use Rattle.sf_slots.specs.Replies.{refusal_of}
 use Rattle.sf_slots.specs.Tells.{Continues, IsToldBy}
 use Rattle.sf_surface.specs.declared.call.QCall.{QCall}
 use Rattle.sf_surface.specs.declared.call.QReply.{QReply}
 use Rattle.sf_surface.specs.declared.entry.HistEntry.{HistEntry}
 use Rattle.sf_surface.specs.declared.mark.QueueMark.{QueueMark}
-use Rattle.sf_surface.specs.Calls.{told_call}
+use Rattle.sf_surface.specs.Calls.{may_wait, told_call}
 use Rattle.sf_surface.specs.Hands.{IsReply}
 use Rattle.sf_surface.specs.Histories.{Made, Answers, FromLog, Queued, Stored, told}
 use Rattle.sf_surface.specs.Inside.{HasDefaultSize}
@@ -53,6 +55,12 @@ module _ {B : Type 0} where
   -- all rights in a queue are those that its calls left last in their slots
   abbrev pub AreStored : List (Made B) → Queue Right → Type 0
   AreStored log = AreAll (Stored log) (IsFrameOf log)
+
+  -- a call waits for a free slot: it comes back and the queue is as it was; it asked to wait, and is refused with WouldBlock where
+  -- it does not
+  abbrev pub WaitsForSlot : Queue Right → Queue Right → ActorId → QCall B → QCall B → Type 0
+  WaitsForSlot old new by asked back =
+      (back ≡ asked) × (new ≡ old) × (may_wait asked ≡ true) × (refusal_of (told_of old) by (told_call old.number asked) ≡ Some WouldBlock)
 
   -- what a call does to the queue, whatever history the queue has
   pub record Does (table : TableId) (old new : Queue Right) (by : ActorId) (asked : QCall B) (reply : QReply B) : Type 0 where

@@ -5,35 +5,34 @@ ghost use Rattle.sf_surface.specs.declared.call.QCall.TheVariants as call;
 ghost use Rattle.sf_surface.specs.Objects.{Does};
 
 use crate::call::{Gives, QCall, QReply};
+use crate::context::Context;
 use crate::held::{has_buffer, unlent_refusal};
 use crate::plain::said_of;
 use crate::replies::refused;
 use crate::rights::{Finished, finish};
 use crate::token::WriteLease;
 use crate::values::Room;
-use sf_base::{ActorId, Fence, NoMemory, QStatus, QueueId};
+use sf_base::{Fence, NoMemory, QStatus};
 use sf_queue::{cancel_allowed, lent_refusal};
 use sf_slots::Slots;
 use sf_turns::sf_picture::Painted;
 use sf_turns::{TableName, Turn};
-use std::alloc::Global;
 
 /// Gives a lent buffer back unqueued.
 pub(crate) fn cancel<B: TableName>(
     slots: &mut Slots<Turn<Painted>>,
-    alloc: Global,
-    by: ActorId,
-    queue: QueueId,
+    context: Context,
     lease: WriteLease<B>,
     fence: Fence,
     room: Room,
 ) -> Result<QReply<B>, (NoMemory, QCall<B>)>
-    requires number { queue ≡ slots.old.number }
+    requires number { context.queue ≡ slots.old.number }
     requires sound { IsSound slots.old }
-    ensures done { IfOk result (Does B.table slots.old slots.new by (call.Cancel lease fence)) }
+    ensures done { IfOk result (Does B.table slots.old slots.new context.by (call.Cancel lease fence)) }
     ensures unchanged { OnErr result (slots.new ≡ slots.old) }
     ensures back { IfErr result (λ back. back.1 ≡ call.Cancel lease fence) }
 {
+    let Context { alloc, by, queue } = context;
     let said = said_of(queue, &lease);
     if !has_buffer(slots, said.slot, said.held) {
         let cause = unlent_refusal(slots, by);

@@ -3,23 +3,22 @@
 ghost use Rattle.std.specs.Prelude.{◌≡◌, ◌≢◌, ℕ, ◌<◌, ◌≤◌, ◌-◌, ◌^◌, IfOk, IfErr, Some, None, true, false, vec_capacity, if◌then◌else◌};
 ghost use Rattle.sf_base.specs.declared.status.QStatus.TheVariants.{WouldBlock};
 ghost use Rattle.sf_calls.specs.Outcomes.{IfDone, IfNotYet, IfNoMemory};
-ghost use Rattle.sf_slots.specs.declared.calls.PlainCall.TheVariants as plain;
 ghost use Rattle.sf_slots.specs.Queue.{told_of, slot_in, IsSound};
-ghost use Rattle.sf_slots.specs.Replies.{refusal_of};
 ghost use Rattle.sf_slots.specs.Told.{slot_for};
 ghost use Rattle.sf_turns.specs.Views.{first_turn};
 ghost use Rattle.sf_surface.specs.declared.call.QCall.TheVariants as call;
 ghost use Rattle.sf_surface.specs.Hands.{IsRoomFor, blank_of, lent_reply};
 ghost use Rattle.sf_surface.specs.Inside.{HasDefaultSize, sized_buffer};
-ghost use Rattle.sf_surface.specs.Objects.{AreRights, Does};
+ghost use Rattle.sf_surface.specs.Objects.{AreRights, Does, WaitsForSlot};
 ghost use Rattle.sf_surface.specs.Tokens.{IsRightOf};
 
 use crate::call::{Gives, QCall, QReply};
+use crate::context::Context;
 use crate::replies::refused;
 use crate::token::WriteLease;
 use crate::values::Room;
 use crate::work::Work;
-use sf_base::{ActorId, QStatus, QueueId};
+use sf_base::{QStatus, QueueId};
 use sf_calls::Outcome;
 use sf_queue::{Dequeued, choose, dequeue_chosen};
 use sf_slots::Slots;
@@ -27,6 +26,15 @@ use sf_turns::sf_picture::{Painted, blank, paint};
 use sf_turns::{Permit, TableName, Turn};
 use std::alloc::Global;
 use std::marker::PhantomData;
+
+/// What a producer asks of a dequeue: a buffer of this size in pixels, 0 by 0 for the queue's default
+/// size, and whether to wait for a free slot.
+#[derive(Clone, Copy)]
+pub(crate) struct DequeueInput {
+    pub(crate) width: u32,
+    pub(crate) height: u32,
+    pub(crate) wait: bool,
+}
 
 /// The first right to a new buffer of this size, transparent black. Out of memory hands the permit
 /// back.
@@ -93,28 +101,29 @@ fn lends<B: TableName>(
 /// Lends a buffer: a new one where there is none of the size, with transparent black pixels.
 pub(crate) fn dequeue<B: TableName>(
     slots: &mut Slots<Turn<Painted>>,
-    alloc: Global,
-    by: ActorId,
-    queue: QueueId,
-    width: u32,
-    height: u32,
-    wait: bool,
+    context: Context,
+    input: DequeueInput,
     permit: Permit<Painted>,
     room: Room,
 ) -> Outcome<QCall<B>, QReply<B>>
-    requires number { queue ≡ slots.old.number }
+    requires number { context.queue ≡ slots.old.number }
     requires numbered { slots.old.settings.buffers < 2 ^ 64 - 1 }
     requires sized { HasDefaultSize slots.old.settings }
     requires rights { AreRights B.table slots.old }
     requires table { permit.table ≡ B.table }
     requires sound { IsSound slots.old }
     requires room { (s : ℕ) → slot_for true (told_of slots.old) ≡ Some s → IsRoomFor (slot_in slots.old s).fence (vec_capacity room.values) }
-    ensures done { IfDone result (Does B.table slots.old slots.new by (call.Dequeue width height wait permit)) }
-    ensures waited { IfDone result (λ reply. wait ≡ true → reply.status ≢ WouldBlock) }
-    ensures not_yet { IfNotYet result (λ back. (back ≡ call.Dequeue width height wait permit) × (slots.new ≡ slots.old) × (wait ≡ true)
-        × (refusal_of (told_of slots.old) by (plain.Dequeue width height wait) ≡ Some WouldBlock)) }
-    ensures no_memory { IfNoMemory result (λ back. (back ≡ call.Dequeue width height wait permit) × (slots.new ≡ slots.old)) }
+    ensures done { IfDone result (Does B.table slots.old slots.new context.by (call.Dequeue input.width input.height input.wait permit)) }
+    ensures waited { IfDone result (λ reply. input.wait ≡ true → reply.status ≢ WouldBlock) }
+    ensures not_yet { IfNotYet result (WaitsForSlot slots.old slots.new context.by (call.Dequeue input.width input.height input.wait permit)) }
+    ensures no_memory { IfNoMemory result (λ back. (back ≡ call.Dequeue input.width input.height input.wait permit) × (slots.new ≡ slots.old)) }
 {
+    let Context { alloc, by, queue } = context;
+    let DequeueInput {
+        width,
+        height,
+        wait,
+    } = input;
     match choose(slots, by, width, height) {
         Err(cause) => {
             let call = QCall::Dequeue {

@@ -10,6 +10,7 @@ mod call;
 mod cancelling;
 mod connecting;
 mod consuming;
+mod context;
 mod detaching;
 mod dispatch;
 mod drawing;

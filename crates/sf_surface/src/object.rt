@@ -8,6 +8,7 @@ ghost use Rattle.sf_surface.specs.Inside.{HasRoomFor};
 ghost use Rattle.sf_surface.specs.Kept.{HasRoom, calls_in};
 
 use crate::call::{QCall, QReply};
+use crate::context::Context;
 use crate::dispatch::dispatch;
 use crate::entry::HistEntry;
 use crate::history::History;
@@ -175,14 +176,12 @@ impl<B: TableName> Object for QueueObject<B> {
         let _settings = self.slots.settings();
         let named = named_of(self.number, &asked);
         let kept = Snapshot::of(&asked);
-        match dispatch(
-            &mut self.slots,
-            self.alloc,
-            ActorId(by),
-            self.number,
-            asked,
-            room,
-        ) {
+        let context = Context {
+            alloc: self.alloc,
+            by: ActorId(by),
+            queue: self.number,
+        };
+        match dispatch(&mut self.slots, context, asked, room) {
             Outcome::Done(reply) => {
                 self.history.put(by, step, named, kept, &reply);
                 Outcome::Done(reply)

@@ -6,19 +6,29 @@ ghost use Rattle.sf_surface.specs.declared.call.QCall.TheVariants as call;
 ghost use Rattle.sf_surface.specs.Objects.{Does};
 
 use crate::call::{Gives, QCall, QReply};
+use crate::context::Context;
 use crate::held::{has_buffer, unlent_refusal};
 use crate::plain::queued_said;
 use crate::replies::refused;
 use crate::rights::{Promised, promise};
 use crate::token::{Owing, WriteLease};
 use crate::values::Room;
-use sf_base::{ActorId, Fence, NoMemory, QStatus, QueueId, Rect};
+use sf_base::{Fence, NoMemory, QStatus, Rect};
 use sf_queue::{QueueOrder, queue_allowed, queue_refusal};
 use sf_slots::Slots;
 use sf_turns::sf_picture::{Painted, Picture};
 use sf_turns::{TableName, Turn};
-use std::alloc::Global;
 use std::marker::PhantomData;
+
+/// What a frame is queued with: the picture that it shows, drawn already or promised, its desired
+/// present time in nanoseconds, the part of the buffer to show, and the acquire fence.
+#[derive(Drop)]
+pub(crate) struct QueueInput {
+    pub(crate) picture: Picture,
+    pub(crate) time: Option<u64>,
+    pub(crate) crop: Rect,
+    pub(crate) fence: Fence,
+}
 
 /// The call with what it brought, for a reply or an error that hands it back.
 fn queue_call<B: TableName>(
@@ -42,23 +52,25 @@ fn queue_call<B: TableName>(
 /// Queues a lent buffer as a frame that shows the picture.
 pub(crate) fn queue<B: TableName>(
     slots: &mut Slots<Turn<Painted>>,
-    alloc: Global,
-    by: ActorId,
-    queue: QueueId,
+    context: Context,
     lease: WriteLease<B>,
-    picture: Picture,
-    time: Option<u64>,
-    crop: Rect,
-    fence: Fence,
+    input: QueueInput,
     room: Room,
 ) -> Result<QReply<B>, (NoMemory, QCall<B>)>
-    requires number { queue ≡ slots.old.number }
+    requires number { context.queue ≡ slots.old.number }
     requires numbered { slots.old.settings.frames < 2 ^ 64 - 1 }
     requires sound { IsSound slots.old }
-    ensures done { IfOk result (Does B.table slots.old slots.new by (call.Queue lease picture time crop fence)) }
+    ensures done { IfOk result (Does B.table slots.old slots.new context.by (call.Queue lease input.picture input.time input.crop input.fence)) }
     ensures unchanged { OnErr result (slots.new ≡ slots.old) }
-    ensures back { IfErr result (λ back. back.1 ≡ call.Queue lease picture time crop fence) }
+    ensures back { IfErr result (λ back. back.1 ≡ call.Queue lease input.picture input.time input.crop input.fence) }
 {
+    let Context { alloc, by, queue } = context;
+    let QueueInput {
+        picture,
+        time,
+        crop,
+        fence,
+    } = input;
     let said = queued_said(queue, &lease, &picture);
     if !has_buffer(slots, said.slot, said.held) {
         let cause = unlent_refusal(slots, by);

@@ -1,11 +1,10 @@
 //! A tree of given layers, as captures and mirrors make one: whether no two have one number, and no
 //! layer reaches itself.
-ghost use Rattle.std.specs.Prelude.{◌≡◌, ℕ, ◌+◌, ◌<◌, ◌≤◌, length, Ok, true, false, IfOk, IfSome, IfNone, slice_get, slice_index_or, slice_set, Some};
+ghost use Rattle.std.specs.Prelude.{◌≡◌, ℕ, ◌+◌, ◌<◌, ◌≤◌, length, Ok, true, false, IfOk, IfSome, IfNone, slice_index_or, slice_set};
 ghost use Rattle.std.specs.List.{All};
-ghost use Rattle.sf_layer.specs.declared.layer.Layer.{Layer as LayerValue};
 ghost use Rattle.sf_tree.specs.Kept.{HasNoCycle, IsDistinct, IsRanked, IsTied};
 ghost use Rattle.sf_tree.specs.Layers.{has_layer};
-ghost use Rattle.sf_tree.specs.inner.Ranking.{rank_by, HasLower, LeadsLower, AllLeadLower, IsSound, IsFound, IsFoundBelow, KeepsRanks};
+ghost use Rattle.sf_tree.specs.inner.Ranking.{rank_by, HasLower, LeadsLower, AllLeadLower, FindsBelow, FindsRank, IsSound, IsFound, KeepsRanks};
 
 use crate::layers::Layers;
 use sf_base::{LayerId, NoMemory};
@@ -39,8 +38,7 @@ fn rank(layers: &Layers, ranks: &mut [usize], place: usize, steps: usize) -> usi
     ensures size { length ranks.new ≡ length layers.now }
     ensures kept { KeepsRanks ranks.old ranks.new }
     ensures at { result ≡ slice_index_or ranks.new place 0 }
-    ensures found { (ranking : ℕ → ℕ) (layer : LayerValue) → IsSound layers.now ranking ranks.old → slice_get layers.now place ≡ Some layer
-        → ranking layer.number.0 < steps → IsFound layers.now ranking ranks.new result }
+    ensures found { FindsRank layers.now ranks.old ranks.new place steps result }
 {
     if ranks[place] == 0 && steps > 0 {
         let below = rank_below(layers, ranks, &layers.at(place), steps - 1);
@@ -67,8 +65,7 @@ fn rank_below(layers: &Layers, ranks: &mut [usize], layer: &Layer, steps: usize)
     requires { length ranks.old ≡ length layers.now }
     ensures size { length ranks.new ≡ length layers.now }
     ensures kept { KeepsRanks ranks.old ranks.new }
-    ensures found { (ranking : ℕ → ℕ) → IsSound layers.now ranking ranks.old → IsTied layers.now layer.now → IsRanked ranking layer.now
-        → ranking layer.now.number.0 ≤ steps → IsFoundBelow layers.now ranking ranks.new layer.now result }
+    ensures found { FindsBelow layers.now ranks.old ranks.new layer.now steps result }
 {
     let parent = match layer.parent {
         Parent::Layer(id) => rank_of(layers, ranks, id, steps),

@@ -106,6 +106,10 @@ module _ {C R M : Type 0} where
   abbrev pub giving : Knows C R M → Knows C R M
   giving v = record v { gave = v.asked ∷ v.gave }
 
+  -- the pass, after it gave the object back with this history, in one more turn
+  abbrev pub passed_on : List (Entry C R) → Knows C R M → Knows C R M
+  passed_on history v = record v { seen = history; turns = v.turns + 1; ticket = None; inside = false; found = history }
+
   -- the pass that was given, which knows what the first one knows
   abbrev pub given : Knows C R M → Knows C R M
   given v = record {

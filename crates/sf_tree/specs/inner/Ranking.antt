@@ -4,7 +4,7 @@ use Rattle.std.specs.List.{All}
 use Rattle.sf_base.specs.declared.ids.LayerId.{LayerId}
 use Rattle.sf_layer.specs.declared.layer.Layer.{Layer}
 use Rattle.sf_layer.specs.declared.parent.Parent.TheVariants as parent
-use Rattle.sf_tree.specs.Kept.{IsTied}
+use Rattle.sf_tree.specs.Kept.{IsRanked, IsTied}
 use Rattle.sf_tree.specs.inner.Known.{IsBounded}
 use Rattle.sf_tree.specs.Layers.{index_of}
 
@@ -54,3 +54,15 @@ pub record IsFoundBelow (layers : List Layer) (ranking : ℕ → ℕ) (ranks : L
   pub sound : IsSound layers ranking ranks
   pub low : rank ≤ ranking layer.number.0
   pub lower : LeadsLower layers ranks (rank + 1) layer
+
+-- in each ranking by which these ranks are sound, these steps suffice to find the rank of the layer at a place
+abbrev pub FindsRank : List Layer → List ℕ → List ℕ → ℕ → ℕ → ℕ → Type 0
+FindsRank layers old new place steps rank =
+    (ranking : ℕ → ℕ) (layer : Layer) → IsSound layers ranking old → slice_get layers place ≡ Some layer
+    → ranking layer.number.0 < steps → IsFound layers ranking new rank
+
+-- and to find the ranks of the layers that a layer's steps lead to
+abbrev pub FindsBelow : List Layer → List ℕ → List ℕ → Layer → ℕ → ℕ → Type 0
+FindsBelow layers old new layer steps rank =
+    (ranking : ℕ → ℕ) → IsSound layers ranking old → IsTied layers layer → IsRanked ranking layer
+    → ranking layer.number.0 ≤ steps → IsFoundBelow layers ranking new layer rank

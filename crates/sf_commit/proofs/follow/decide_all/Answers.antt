@@ -22,7 +22,7 @@ look-requires g c =
     }
 
 pub decide-requires-clause-pressed : goal.decide-requires-clause-pressed
-decide-requires-clause-pressed g c = subst (λ (p : List ℕ). HasSame p (pressed_in c.args.tree.layers)) (sym (ap (λ (f : FactsOf). f.pressed) c.begin_vsync.ensures)) c.requires.pressed
+decide-requires-clause-pressed g c = subst (λ (p : List ℕ). HasSame p (pressed_in c.args.stage.tree.layers)) (sym (ap (λ (f : FactsOf). f.pressed) c.begin_vsync.ensures)) c.requires.pressed
 
 pub decide-requires-clause-looked : goal.decide-requires-clause-looked
 decide-requires-clause-looked g c =
@@ -48,7 +48,7 @@ held-requires g c =
     let received = subst (λ xs. IsRisingFrom 0 xs end) (sym (ap (λ (q : QueuesOf g.row.L.Denot). q.pending) c.in_ok-receive.ensures)) all in
     let rises = rising_looked g.L.Lease 0 end c.receive.new.queues.pending c.look.new.self.pending c.in_ok-looks.ensures.looked received in
     let begins = subst (λ looks. AreLooks g.L.Lease looks c.look.new.self.pending) (sym (c.as_slice-2.ensures.value ∙ c.in_ok-looks.ensures.looks)) (looks_begin g.L.Lease c.look.new.self.pending end rises) in
-    looks_stay g.L.Lease c.args.seen.now c.args.expected c.as_slice-2.result.now _ c.decide.new.stage c.decide.new.queues.pending c.decide.new.facts c.in_ok-decide.ensures.comes begins
+    looks_stay g.L.Lease c.args.instant.seen.now c.args.instant.expected c.as_slice-2.result.now _ c.decide.new.stage c.decide.new.queues.pending c.decide.new.facts c.in_ok-decide.ensures.comes begins
 
 pub returns-clause-decides : goal.returns-clause-decides
 returns-clause-decides g c =
@@ -63,8 +63,8 @@ returns-clause-decides g c =
       end = comes.end;
       decided = record {
         taken = comes.decided.taken;
-        leads = subst (λ b. Leads g.L.Lease.shown c.args.seen.now c.args.expected b comes.decided.taken comes.end)
-            (λ i. record { stage = record { tree = c.args.tree; on = c.args.on.items; commits = c.new.ensures.items i; gone = c.new-2.ensures.items i }; pending = c.look.new.self.pending; frames = frames i; fresh = fresh i })
+        leads = subst (λ b. Leads g.L.Lease.shown c.args.instant.seen.now c.args.instant.expected b comes.decided.taken comes.end)
+            (λ i. record { stage = record { tree = c.args.stage.tree; on = c.args.stage.on; commits = c.requires.no_commits i; gone = c.requires.none_gone i }; pending = c.look.new.self.pending; frames = frames i; fresh = fresh i })
             comes.decided.leads;
         rests = comes.decided.rests;
       };
@@ -73,6 +73,6 @@ returns-clause-decides g c =
       queues = λ i. record { pending = comes.state.waits i; last = lasts i };
       frames = comes.state.same.frames;
       pressed = subst (λ (s : StageOf g.row.L.Denot). HasSame c.decide.new.facts.pressed (pressed_in s.tree.layers)) (sym comes.state.made) comes.state.same.pressed;
-      holds = c.in_ok-waits.ensures ∙ held_is g.L.Lease.shown c.args.seen.now c.args.expected c.decide.new.stage c.decide.new.queues.pending c.decide.new.facts comes.end comes.state;
+      holds = c.in_ok-waits.ensures ∙ held_is g.L.Lease.shown c.args.instant.seen.now c.args.instant.expected c.decide.new.stage c.decide.new.queues.pending c.decide.new.facts comes.end comes.state;
       eye_is = c.look.ensures.eye;
     }

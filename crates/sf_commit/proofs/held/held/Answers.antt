@@ -16,11 +16,11 @@ pub loop-look-preserved : goal.loop-look-preserved
 loop-look-preserved g c =
     elim c.match-told_at.branch [
       | in-Some+in_ok-push w ↦ ap (λ v. v.items) w.held-is ∙ (w.in_ok-push.ensures.items
-          ∙ told_more g.L.Lease.shown c.args.seen.now c.args.expected c.args.facts.now c.args.queues.now.pending
+          ∙ told_more g.L.Lease.shown c.args.instant.seen.now c.args.instant.expected c.args.facts.now c.args.queues.now.pending
           c.args.looks.now c.loop-look.look-index c.look-item.result c.loop-look.held.items (Some w.in-Some.told)
           c.loop-look-test.true c.look-item.is (sym w.in-Some.is ∙ c.told_at.ensures) c.loop-look.invariant)
       | in_default w ↦ ap (λ v. v.items) w.held-is
-          ∙ told_more g.L.Lease.shown c.args.seen.now c.args.expected c.args.facts.now c.args.queues.now.pending
+          ∙ told_more g.L.Lease.shown c.args.instant.seen.now c.args.instant.expected c.args.facts.now c.args.queues.now.pending
           c.args.looks.now c.loop-look.look-index c.look-item.result c.loop-look.held.items None
           c.loop-look-test.true c.look-item.is (sym w.in_default.is ∙ c.told_at.ensures) c.loop-look.invariant
     ]
@@ -28,6 +28,6 @@ loop-look-preserved g c =
 pub returns : goal.returns
 returns g c =
     c.loop-look.invariant
-    ∙ (ap (filter_map (told_by g.L.Lease.shown c.args.seen.now c.args.expected c.args.facts.now c.args.queues.now.pending))
+    ∙ (ap (filter_map (told_by g.L.Lease.shown c.args.instant.seen.now c.args.instant.expected c.args.facts.now c.args.queues.now.pending))
     (take_all c.loop-look.look-index c.args.looks.now (omega (arith, c.loop-look-test.false)))
-    ∙ told_all g.L.Lease c.args.seen.now c.args.expected c.args.facts.now c.args.looks.now c.args.queues.now.pending c.requires)
+    ∙ told_all g.L.Lease c.args.instant.seen.now c.args.instant.expected c.args.facts.now c.args.looks.now c.args.queues.now.pending c.requires)

@@ -5,4 +5,4 @@ use Rattle.sf_commit.proofs.held.held.Given as goal
 
 abbrev pub invariant-loop-look : goal.invariant-loop-look
 invariant-loop-look g l =
-    l.held.items ≡ filter_map (told_by g.L.Lease.shown l.fn.seen l.fn.expected l.fn.facts l.fn.queues.pending) (take l.look-index l.fn.looks)
+    l.held.items ≡ filter_map (told_by g.L.Lease.shown l.fn.instant.seen.now l.fn.instant.expected l.fn.facts l.fn.queues.pending) (take l.look-index l.fn.looks)

@@ -14,8 +14,8 @@ first_hold-requires-clause-looked g c =
 
 pub returns-in-Some : goal.returns-in-Some
 returns-in-Some g c =
-    subst (IsAnswer g.L.Lease.shown c.args.seen.now c.args.expected c.args.facts.now c.args.queues.now.pending c.args.token) (sym c.answer_of.ensures)
-    (answers g.L.Lease.shown c.args.seen.now c.args.expected c.args.facts.now c.args.queues.now.pending c.args.token _ c.first_hold.result (sym c.in-Some.ensures) c.first_hold.ensures)
+    subst (IsAnswer g.L.Lease.shown c.args.instant.seen.now c.args.instant.expected c.args.facts.now c.args.queues.now.pending c.args.token) (sym c.answer_of.ensures)
+    (answers g.L.Lease.shown c.args.instant.seen.now c.args.instant.expected c.args.facts.now c.args.queues.now.pending c.args.token _ c.first_hold.result (sym c.in-Some.ensures) c.first_hold.ensures)
 
 pub returns-in-None : goal.returns-in-None
-returns-in-None g c = out_none g.L.Lease.shown c.args.seen.now c.args.expected c.args.queues.now.pending c.args.token (sym c.in-None.ensures)
+returns-in-None g c = out_none g.L.Lease.shown c.args.instant.seen.now c.args.instant.expected c.args.queues.now.pending c.args.token (sym c.in-None.ensures)

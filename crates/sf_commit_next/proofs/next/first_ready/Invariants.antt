@@ -6,7 +6,7 @@ use Rattle.sf_commit_next.proofs.next.first_ready.Given as goal
 
 abbrev pub invariant-loop-token : goal.invariant-loop-token
 invariant-loop-token g l =
-    Asked g.L.Lease.shown l.fn.seen l.fn.expected l.fn.facts l.fn.queues.pending l.asking l.stopped.items
+    Asked g.L.Lease.shown l.fn.instant.seen.now l.fn.instant.expected l.fn.facts l.fn.queues.pending l.asking l.stopped.items
     × IsStrictlySortedBy nat_cmp (l.stopped.items ++ l.asking)
 
 abbrev pub decreases-loop-token : goal.decreases-loop-token

@@ -16,10 +16,10 @@ returns-clause-next g c = c.in_ok-next.ensures.next.is_next
 
 pub returns-clause-asks : goal.returns-clause-asks
 returns-clause-asks g c =
-    enough_again g.L.Lease.shown c.args.seen.now c.args.expected c.args.queues.now.pending c.first_ready.new.asking c.first_ready.new.stopped.items c.ask_again.new.asking
+    enough_again g.L.Lease.shown c.args.instant.seen.now c.args.instant.expected c.args.queues.now.pending c.first_ready.new.asking c.first_ready.new.stopped.items c.ask_again.new.asking
     c.in_ok-next.ensures.next.rest c.in_ok-ask_again.ensures
 
 pub returns-clause-among : goal.returns-clause-among
 returns-clause-among g c =
-    among_again g.L.Lease.shown c.args.seen.now c.args.expected c.first_ready.new.asking c.first_ready.new.stopped.items c.ask_again.new.asking
+    among_again g.L.Lease.shown c.args.instant.seen.now c.args.instant.expected c.first_ready.new.asking c.first_ready.new.stopped.items c.ask_again.new.asking
     c.in_ok-next.next c.in_ok-next.ensures.next.among c.in_ok-ask_again.ensures

@@ -1,10 +1,8 @@
-use Rattle.std.proofs.Common.{◌≡◌, ◌∙◌, Bool, false, [], length, refl, ap, sym, subst, true≢false, arith}
+use Rattle.std.proofs.Common.{◌∙◌, Bool, false, [], length, refl, ap, sym, subst, true≢false, arith}
 use Rattle.std.specs.Prelude.{if◌then◌else◌}
 use Rattle.std.specs.List.{All}
-use Rattle.std.specs.Option.{option_map}
 use Rattle.std.proofs.lemmas.Result.{IfOk-from_err}
 use Rattle.sf_commit_next.specs.sf_ready.Facts.{HasSame}
-use Rattle.sf_commit_next.specs.sf_token.Pending.{IsRisingFrom}
 use Rattle.sf_view.specs.sf_tree.Trees.{TreeOf}
 use Rattle.sf_commit_next.specs.sf_txn.Leases.{IsEyeAfter}
 use Rattle.sf_commit.proofs.MarkLemmas.{room_failed, room_made, some_map}
@@ -12,21 +10,22 @@ use Rattle.sf_commit.proofs.SettleLemmas.{eye_same}
 use Rattle.sf_commit.proofs.VsyncLemmas.{IsReadable, Makes, Tried, begins_with, decides_same, decides_vsync, fits_of, kept_as, kept_at_once, kept_early, kept_vsync, known_of, stage_on}
 use Rattle.sf_commit.proofs.VsyncLemmas.{stops_early, stops_same, tried_fit, tried_kept, tried_stops, tried_unlent}
 use Rattle.sf_commit.specs.inner.Following.{DecidesAll}
-use Rattle.sf_commit.specs.Handlers.{FitsHandler, HandlerOf, last_of}
+use Rattle.sf_commit.specs.Handlers.{HandlerOf}
 use Rattle.sf_commit.specs.Lending.{ends_of}
 use Rattle.sf_commit.specs.Rounds.{StageOf, pressed_in}
+use Rattle.sf_commit.proofs.ValueLemmas.{fits_inside, rising_inside, stage_of, value_of}
 use Rattle.sf_commit.proofs.handler.Handler.commit.Goals as goal
 
 pub decide_all-requires-clause-pending : goal.decide_all-requires-clause-pending
 decide_all-requires-clause-pending g c =
-    (subst (λ (x : HandlerOf g.row.L.Denot). x.is_spent ≡ false → FitsHandler g.L.Lease c.args.eye.now x) (sym c.self.view_is) c.requires.fits c.if-self.false).pending
+    (fits_inside g.L.Lease c.args.eye.now (value_of c.self.inside) c.args.self.now c.self.view_is c.requires.fits c.if-self.false).pending
 
 pub decide_all-requires-clause-earlier : goal.decide_all-requires-clause-earlier
 decide_all-requires-clause-earlier g c = (c.self.invariant.0.keeps c.if-self.false).rising
 
 pub decide_all-requires-clause-rising : goal.decide_all-requires-clause-rising
 decide_all-requires-clause-rising g c =
-    subst (λ (x : HandlerOf g.row.L.Denot). x.is_spent ≡ false → IsRisingFrom x.last c.args.arrived.items (last_of x.last c.args.arrived.items)) (sym c.self.view_is) c.requires.rising c.if-self.false
+    rising_inside (value_of c.self.inside) c.args.self.now c.args.arrived.items c.self.view_is c.requires.rising c.if-self.false
 
 pub decide_all-requires-clause-pressed : goal.decide_all-requires-clause-pressed
 decide_all-requires-clause-pressed g c =
@@ -35,19 +34,8 @@ decide_all-requires-clause-pressed g c =
 pub settle_all-settled-requires-clause-staying : goal.settle_all-settled-requires-clause-staying
 settle_all-settled-requires-clause-staying g c =
     let inside = c.self.inside in
-    let h : HandlerOf g.row.L.Denot = record {
-      width = inside.width;
-      height = inside.height;
-      tree = inside.tree;
-      pending = inside.queues.pending;
-      frames = inside.facts.frames;
-      on = inside.on.items;
-      last = inside.queues.last;
-      is_spent = inside.is_spent;
-      lent = option_map (λ lent. lent.value) inside.lent;
-      kept = inside.kept.items;
-    } in
-    let fits = subst (λ (x : HandlerOf g.row.L.Denot). x.is_spent ≡ false → FitsHandler g.L.Lease c.args.eye.now x) (sym c.self.view_is) c.requires.fits c.if-self.false in
+    let h = value_of inside in
+    let fits = fits_inside g.L.Lease c.args.eye.now (value_of c.self.inside) c.args.self.now c.self.view_is c.requires.fits c.if-self.false in
     let on = c.in_ok-on.ensures ∙ ap (λ v. v.items) c.replace-readings.ensures.value in
     let begins = begins_with g.L.Lease h c.in_ok-on.on.items inside.queues c.args.eye.now c.args.arrived.items (c.self.invariant.0.keeps c.if-self.false) fits c.requires.brought on refl in
     let stays = stage_on g.L.Lease c.replace-tree.result c.in_ok-on.on.items inside.facts inside.queues c.args.eye.now c.args.arrived.items c.args.seen.now c.args.expected
@@ -58,19 +46,8 @@ settle_all-settled-requires-clause-staying g c =
 pub settle_all-settled-requires-clause-known : goal.settle_all-settled-requires-clause-known
 settle_all-settled-requires-clause-known g c =
     let inside = c.self.inside in
-    let h : HandlerOf g.row.L.Denot = record {
-      width = inside.width;
-      height = inside.height;
-      tree = inside.tree;
-      pending = inside.queues.pending;
-      frames = inside.facts.frames;
-      on = inside.on.items;
-      last = inside.queues.last;
-      is_spent = inside.is_spent;
-      lent = option_map (λ lent. lent.value) inside.lent;
-      kept = inside.kept.items;
-    } in
-    let fits = subst (λ (x : HandlerOf g.row.L.Denot). x.is_spent ≡ false → FitsHandler g.L.Lease c.args.eye.now x) (sym c.self.view_is) c.requires.fits c.if-self.false in
+    let h = value_of inside in
+    let fits = fits_inside g.L.Lease c.args.eye.now (value_of c.self.inside) c.args.self.now c.self.view_is c.requires.fits c.if-self.false in
     let on = c.in_ok-on.ensures ∙ ap (λ v. v.items) c.replace-readings.ensures.value in
     let begins = begins_with g.L.Lease h c.in_ok-on.on.items inside.queues c.args.eye.now c.args.arrived.items (c.self.invariant.0.keeps c.if-self.false) fits c.requires.brought on refl in
     let stays = stage_on g.L.Lease c.replace-tree.result c.in_ok-on.on.items inside.facts inside.queues c.args.eye.now c.args.arrived.items c.args.seen.now c.args.expected
@@ -81,22 +58,11 @@ settle_all-settled-requires-clause-known g c =
 pub leave_unlent-requires-clause-fits : goal.leave_unlent-requires-clause-fits
 leave_unlent-requires-clause-fits g c =
     let inside = c.self.inside in
-    let h : HandlerOf g.row.L.Denot = record {
-      width = inside.width;
-      height = inside.height;
-      tree = inside.tree;
-      pending = inside.queues.pending;
-      frames = inside.facts.frames;
-      on = inside.on.items;
-      last = inside.queues.last;
-      is_spent = inside.is_spent;
-      lent = option_map (λ lent. lent.value) inside.lent;
-      kept = inside.kept.items;
-    } in
-    let fits = subst (λ (x : HandlerOf g.row.L.Denot). x.is_spent ≡ false → FitsHandler g.L.Lease c.args.eye.now x) (sym c.self.view_is) c.requires.fits c.if-self.false in
+    let h = value_of inside in
+    let fits = fits_inside g.L.Lease c.args.eye.now (value_of c.self.inside) c.args.self.now c.self.view_is c.requires.fits c.if-self.false in
     let on = c.in_ok-on.ensures ∙ ap (λ v. v.items) c.replace-readings.ensures.value in
     let stage = c.stage.inside in
-    let made : StageOf g.row.L.Denot = record { tree = stage.tree; on = stage.on.items; commits = stage.commits.items; gone = stage.gone.items } in
+    let made = stage_of stage in
     let decides = subst (λ (t : TreeOf). DecidesAll g.L.Lease t c.in_ok-on.on.items inside.facts inside.queues c.args.eye.now c.args.arrived.items c.args.seen.now c.args.expected
     c.in_ok-stage.stage c.in_ok-stage.held.items c.decide_all.new.queues c.decide_all.new.facts c.decide_all.new.eye) c.replace-tree.ensures.value c.in_ok-stage.ensures.decides in
     let t : Tried g.L.Lease h inside.facts inside.queues c.in_ok-on.on.items c.args.eye.now c.decide_all.new.eye c.settle_all-settled.new.eye c.args.arrived.items c.args.seen.now c.args.expected
@@ -120,22 +86,11 @@ leave_unlent-requires-clause-fits g c =
 pub leave_unlent-requires-clause-there : goal.leave_unlent-requires-clause-there
 leave_unlent-requires-clause-there g c =
     let inside = c.self.inside in
-    let h : HandlerOf g.row.L.Denot = record {
-      width = inside.width;
-      height = inside.height;
-      tree = inside.tree;
-      pending = inside.queues.pending;
-      frames = inside.facts.frames;
-      on = inside.on.items;
-      last = inside.queues.last;
-      is_spent = inside.is_spent;
-      lent = option_map (λ lent. lent.value) inside.lent;
-      kept = inside.kept.items;
-    } in
-    let fits = subst (λ (x : HandlerOf g.row.L.Denot). x.is_spent ≡ false → FitsHandler g.L.Lease c.args.eye.now x) (sym c.self.view_is) c.requires.fits c.if-self.false in
+    let h = value_of inside in
+    let fits = fits_inside g.L.Lease c.args.eye.now (value_of c.self.inside) c.args.self.now c.self.view_is c.requires.fits c.if-self.false in
     let on = c.in_ok-on.ensures ∙ ap (λ v. v.items) c.replace-readings.ensures.value in
     let stage = c.stage.inside in
-    let made : StageOf g.row.L.Denot = record { tree = stage.tree; on = stage.on.items; commits = stage.commits.items; gone = stage.gone.items } in
+    let made = stage_of stage in
     let decides = subst (λ (t : TreeOf). DecidesAll g.L.Lease t c.in_ok-on.on.items inside.facts inside.queues c.args.eye.now c.args.arrived.items c.args.seen.now c.args.expected
     c.in_ok-stage.stage c.in_ok-stage.held.items c.decide_all.new.queues c.decide_all.new.facts c.decide_all.new.eye) c.replace-tree.ensures.value c.in_ok-stage.ensures.decides in
     let t : Tried g.L.Lease h inside.facts inside.queues c.in_ok-on.on.items c.args.eye.now c.decide_all.new.eye c.settle_all-settled.new.eye c.args.arrived.items c.args.seen.now c.args.expected
@@ -160,35 +115,13 @@ leave_unlent-requires-clause-there g c =
 pub invariant_of-self : goal.invariant_of-self
 invariant_of-self g c =
     let inside = c.self.inside in
-    let h : HandlerOf g.row.L.Denot = record {
-      width = inside.width;
-      height = inside.height;
-      tree = inside.tree;
-      pending = inside.queues.pending;
-      frames = inside.facts.frames;
-      on = inside.on.items;
-      last = inside.queues.last;
-      is_spent = inside.is_spent;
-      lent = option_map (λ lent. lent.value) inside.lent;
-      kept = inside.kept.items;
-    } in
+    let h = value_of inside in
     (kept_at_once g.L.Lease h _ inside.contents.items inside.has_changed c.self.invariant.0 refl refl refl refl, c.self.invariant.1, λ alive. absurd (true≢false alive))
 
 pub invariant_of-self-in_err-on : goal.invariant_of-self-in_err-on
 invariant_of-self-in_err-on g c =
     let inside = c.self.inside in
-    let h : HandlerOf g.row.L.Denot = record {
-      width = inside.width;
-      height = inside.height;
-      tree = inside.tree;
-      pending = inside.queues.pending;
-      frames = inside.facts.frames;
-      on = inside.on.items;
-      last = inside.queues.last;
-      is_spent = inside.is_spent;
-      lent = option_map (λ lent. lent.value) inside.lent;
-      kept = inside.kept.items;
-    } in
+    let h = value_of inside in
     let is_lent = c.is_some-is_lent.ensures ∙ sym (some_map (λ lent. lent.value) inside.lent) in
     let none = ap (λ v. v.items) c.replace-readings.ensures.after ∙ c.new.ensures.items in
     let empty = ap (λ v. v.items) c.replace-contents.ensures.after ∙ c.new-2.ensures.items in (
@@ -200,18 +133,7 @@ invariant_of-self-in_err-on g c =
 pub invariant_of-self-in_err-stage : goal.invariant_of-self-in_err-stage
 invariant_of-self-in_err-stage g c =
     let inside = c.self.inside in
-    let h : HandlerOf g.row.L.Denot = record {
-      width = inside.width;
-      height = inside.height;
-      tree = inside.tree;
-      pending = inside.queues.pending;
-      frames = inside.facts.frames;
-      on = inside.on.items;
-      last = inside.queues.last;
-      is_spent = inside.is_spent;
-      lent = option_map (λ lent. lent.value) inside.lent;
-      kept = inside.kept.items;
-    } in
+    let h = value_of inside in
     let is_lent = c.is_some-is_lent.ensures ∙ sym (some_map (λ lent. lent.value) inside.lent) in
     let none = ap (λ v. v.items) c.replace-readings.ensures.after ∙ c.new.ensures.items in
     let empty = ap (λ v. v.items) c.replace-contents.ensures.after ∙ c.new-2.ensures.items in (
@@ -223,22 +145,11 @@ invariant_of-self-in_err-stage g c =
 pub invariant_of-self-in_err-on-2 : goal.invariant_of-self-in_err-on-2
 invariant_of-self-in_err-on-2 g c =
     let inside = c.self.inside in
-    let h : HandlerOf g.row.L.Denot = record {
-      width = inside.width;
-      height = inside.height;
-      tree = inside.tree;
-      pending = inside.queues.pending;
-      frames = inside.facts.frames;
-      on = inside.on.items;
-      last = inside.queues.last;
-      is_spent = inside.is_spent;
-      lent = option_map (λ lent. lent.value) inside.lent;
-      kept = inside.kept.items;
-    } in
-    let fits = subst (λ (x : HandlerOf g.row.L.Denot). x.is_spent ≡ false → FitsHandler g.L.Lease c.args.eye.now x) (sym c.self.view_is) c.requires.fits c.if-self.false in
+    let h = value_of inside in
+    let fits = fits_inside g.L.Lease c.args.eye.now (value_of c.self.inside) c.args.self.now c.self.view_is c.requires.fits c.if-self.false in
     let on = c.in_ok-on.ensures ∙ ap (λ v. v.items) c.replace-readings.ensures.value in
     let stage = c.stage.inside in
-    let made : StageOf g.row.L.Denot = record { tree = stage.tree; on = stage.on.items; commits = stage.commits.items; gone = stage.gone.items } in
+    let made = stage_of stage in
     let decides = subst (λ (t : TreeOf). DecidesAll g.L.Lease t c.in_ok-on.on.items inside.facts inside.queues c.args.eye.now c.args.arrived.items c.args.seen.now c.args.expected
     c.in_ok-stage.stage c.in_ok-stage.held.items c.decide_all.new.queues c.decide_all.new.facts c.decide_all.new.eye) c.replace-tree.ensures.value c.in_ok-stage.ensures.decides in
     let t : Tried g.L.Lease h inside.facts inside.queues c.in_ok-on.on.items c.args.eye.now c.decide_all.new.eye c.settle_all-settled.new.eye c.args.arrived.items c.args.seen.now c.args.expected
@@ -270,22 +181,11 @@ invariant_of-self-in_err-on-2 g c =
 pub invariant_of-self-in_err-make : goal.invariant_of-self-in_err-make
 invariant_of-self-in_err-make g c =
     let inside = c.self.inside in
-    let h : HandlerOf g.row.L.Denot = record {
-      width = inside.width;
-      height = inside.height;
-      tree = inside.tree;
-      pending = inside.queues.pending;
-      frames = inside.facts.frames;
-      on = inside.on.items;
-      last = inside.queues.last;
-      is_spent = inside.is_spent;
-      lent = option_map (λ lent. lent.value) inside.lent;
-      kept = inside.kept.items;
-    } in
-    let fits = subst (λ (x : HandlerOf g.row.L.Denot). x.is_spent ≡ false → FitsHandler g.L.Lease c.args.eye.now x) (sym c.self.view_is) c.requires.fits c.if-self.false in
+    let h = value_of inside in
+    let fits = fits_inside g.L.Lease c.args.eye.now (value_of c.self.inside) c.args.self.now c.self.view_is c.requires.fits c.if-self.false in
     let on = c.in_ok-on.ensures ∙ ap (λ v. v.items) c.replace-readings.ensures.value in
     let stage = c.stage.inside in
-    let made : StageOf g.row.L.Denot = record { tree = stage.tree; on = stage.on.items; commits = stage.commits.items; gone = stage.gone.items } in
+    let made = stage_of stage in
     let decides = subst (λ (t : TreeOf). DecidesAll g.L.Lease t c.in_ok-on.on.items inside.facts inside.queues c.args.eye.now c.args.arrived.items c.args.seen.now c.args.expected
     c.in_ok-stage.stage c.in_ok-stage.held.items c.decide_all.new.queues c.decide_all.new.facts c.decide_all.new.eye) c.replace-tree.ensures.value c.in_ok-stage.ensures.decides in
     let t : Tried g.L.Lease h inside.facts inside.queues c.in_ok-on.on.items c.args.eye.now c.decide_all.new.eye c.settle_all-settled.new.eye c.args.arrived.items c.args.seen.now c.args.expected
@@ -317,22 +217,11 @@ invariant_of-self-in_err-make g c =
 pub invariant_of-self-2 : goal.invariant_of-self-2
 invariant_of-self-2 g c =
     let inside = c.self.inside in
-    let h : HandlerOf g.row.L.Denot = record {
-      width = inside.width;
-      height = inside.height;
-      tree = inside.tree;
-      pending = inside.queues.pending;
-      frames = inside.facts.frames;
-      on = inside.on.items;
-      last = inside.queues.last;
-      is_spent = inside.is_spent;
-      lent = option_map (λ lent. lent.value) inside.lent;
-      kept = inside.kept.items;
-    } in
-    let fits = subst (λ (x : HandlerOf g.row.L.Denot). x.is_spent ≡ false → FitsHandler g.L.Lease c.args.eye.now x) (sym c.self.view_is) c.requires.fits c.if-self.false in
+    let h = value_of inside in
+    let fits = fits_inside g.L.Lease c.args.eye.now (value_of c.self.inside) c.args.self.now c.self.view_is c.requires.fits c.if-self.false in
     let on = c.in_ok-on.ensures ∙ ap (λ v. v.items) c.replace-readings.ensures.value in
     let stage = c.stage.inside in
-    let made : StageOf g.row.L.Denot = record { tree = stage.tree; on = stage.on.items; commits = stage.commits.items; gone = stage.gone.items } in
+    let made = stage_of stage in
     let decides = subst (λ (t : TreeOf). DecidesAll g.L.Lease t c.in_ok-on.on.items inside.facts inside.queues c.args.eye.now c.args.arrived.items c.args.seen.now c.args.expected
     c.in_ok-stage.stage c.in_ok-stage.held.items c.decide_all.new.queues c.decide_all.new.facts c.decide_all.new.eye) c.replace-tree.ensures.value c.in_ok-stage.ensures.decides in
     let is_lent = c.is_some-is_lent.ensures ∙ sym (some_map (λ lent. lent.value) inside.lent) in
@@ -357,7 +246,7 @@ invariant_of-self-2 g c =
       handler = c.self.invariant.0.keeps c.if-self.false;
       fits = fits;
       brought = c.requires.brought;
-      rising = subst (λ (x : HandlerOf g.row.L.Denot). x.is_spent ≡ false → IsRisingFrom x.last c.args.arrived.items (last_of x.last c.args.arrived.items)) (sym c.self.view_is) c.requires.rising c.if-self.false;
+      rising = rising_inside (value_of c.self.inside) c.args.self.now c.args.arrived.items c.self.view_is c.requires.rising c.if-self.false;
     } in
     let many = c.len.ensures in
     let ok = s.on.ok.0 in (
@@ -372,22 +261,11 @@ invariant_of-self-2 g c =
 pub returns-clause-decides : goal.returns-clause-decides
 returns-clause-decides g c =
     let inside = c.self.inside in
-    let h : HandlerOf g.row.L.Denot = record {
-      width = inside.width;
-      height = inside.height;
-      tree = inside.tree;
-      pending = inside.queues.pending;
-      frames = inside.facts.frames;
-      on = inside.on.items;
-      last = inside.queues.last;
-      is_spent = inside.is_spent;
-      lent = option_map (λ lent. lent.value) inside.lent;
-      kept = inside.kept.items;
-    } in
-    let fits = subst (λ (x : HandlerOf g.row.L.Denot). x.is_spent ≡ false → FitsHandler g.L.Lease c.args.eye.now x) (sym c.self.view_is) c.requires.fits c.if-self.false in
+    let h = value_of inside in
+    let fits = fits_inside g.L.Lease c.args.eye.now (value_of c.self.inside) c.args.self.now c.self.view_is c.requires.fits c.if-self.false in
     let on = c.in_ok-on.ensures ∙ ap (λ v. v.items) c.replace-readings.ensures.value in
     let stage = c.stage.inside in
-    let made : StageOf g.row.L.Denot = record { tree = stage.tree; on = stage.on.items; commits = stage.commits.items; gone = stage.gone.items } in
+    let made = stage_of stage in
     let decides = subst (λ (t : TreeOf). DecidesAll g.L.Lease t c.in_ok-on.on.items inside.facts inside.queues c.args.eye.now c.args.arrived.items c.args.seen.now c.args.expected
     c.in_ok-stage.stage c.in_ok-stage.held.items c.decide_all.new.queues c.decide_all.new.facts c.decide_all.new.eye) c.replace-tree.ensures.value c.in_ok-stage.ensures.decides in
     let is_lent = c.is_some-is_lent.ensures ∙ sym (some_map (λ lent. lent.value) inside.lent) in
@@ -412,13 +290,13 @@ returns-clause-decides g c =
       handler = c.self.invariant.0.keeps c.if-self.false;
       fits = fits;
       brought = c.requires.brought;
-      rising = subst (λ (x : HandlerOf g.row.L.Denot). x.is_spent ≡ false → IsRisingFrom x.last c.args.arrived.items (last_of x.last c.args.arrived.items)) (sym c.self.view_is) c.requires.rising c.if-self.false;
+      rising = rising_inside (value_of c.self.inside) c.args.self.now c.args.arrived.items c.self.view_is c.requires.rising c.if-self.false;
     } in
     let told = decides_vsync g.L.Lease h inside.facts inside.queues c.in_ok-on.on.items c.args.eye.now c.decide_all.new.eye c.settle_all-settled.new.eye c.leave_unlent.new.eye c.args.arrived.items c.args.seen.now c.args.expected
     c.in_ok-stage.stage made c.in_ok-stage.held.items c.decide_all.new.queues c.decide_all.new.facts s.on.items s.contents.items s.releases.items
     c.settle_all-settled.new.kept.items c.leave_unlent.new.kept.items m in
     decides_same g.L.Lease _ _ c.args.eye.now c.leave_unlent.new.eye c.args.arrived.items c.args.seen.now c.args.expected _ _ _ c.self.view_is
-    (λ i. record { commits = sym c.new-3.ensures i; releases = sym c.new-4.ensures i; held = sym c.new-5.ensures i })
+    (λ i. record { commits = sym c.new-5.ensures i; releases = sym c.new-6.ensures i; held = sym c.new-7.ensures i })
     told
 
 pub returns-then-self-clause-stops : goal.returns-then-self-clause-stops
@@ -428,73 +306,29 @@ returns-then-self-clause-stops g c =
 pub returns-in_err-with_limit-clause-stops : goal.returns-in_err-with_limit-clause-stops
 returns-in_err-with_limit-clause-stops g c =
     let inside = c.self.inside in
-    let h : HandlerOf g.row.L.Denot = record {
-      width = inside.width;
-      height = inside.height;
-      tree = inside.tree;
-      pending = inside.queues.pending;
-      frames = inside.facts.frames;
-      on = inside.on.items;
-      last = inside.queues.last;
-      is_spent = inside.is_spent;
-      lent = option_map (λ lent. lent.value) inside.lent;
-      kept = inside.kept.items;
-    } in
+    let h = value_of inside in
     stops_same g.L.Lease _ h _ _ c.args.eye.now _ c.args.arrived.items c.args.seen.now c.args.expected c.self.view_is (stops_early g.L.Lease h _ c.args.eye.now _ c.args.arrived.items c.args.seen.now c.args.expected refl refl refl (eye_same g.L.Lease c.args.eye.now))
 
 pub returns-in_err-on-clause-stops : goal.returns-in_err-on-clause-stops
 returns-in_err-on-clause-stops g c =
     let inside = c.self.inside in
-    let h : HandlerOf g.row.L.Denot = record {
-      width = inside.width;
-      height = inside.height;
-      tree = inside.tree;
-      pending = inside.queues.pending;
-      frames = inside.facts.frames;
-      on = inside.on.items;
-      last = inside.queues.last;
-      is_spent = inside.is_spent;
-      lent = option_map (λ lent. lent.value) inside.lent;
-      kept = inside.kept.items;
-    } in
+    let h = value_of inside in
     stops_same g.L.Lease _ h _ _ c.args.eye.now _ c.args.arrived.items c.args.seen.now c.args.expected c.self.view_is (stops_early g.L.Lease h _ c.args.eye.now _ c.args.arrived.items c.args.seen.now c.args.expected refl refl refl (eye_same g.L.Lease c.args.eye.now))
 
 pub returns-in_err-stage-clause-stops : goal.returns-in_err-stage-clause-stops
 returns-in_err-stage-clause-stops g c =
     let inside = c.self.inside in
-    let h : HandlerOf g.row.L.Denot = record {
-      width = inside.width;
-      height = inside.height;
-      tree = inside.tree;
-      pending = inside.queues.pending;
-      frames = inside.facts.frames;
-      on = inside.on.items;
-      last = inside.queues.last;
-      is_spent = inside.is_spent;
-      lent = option_map (λ lent. lent.value) inside.lent;
-      kept = inside.kept.items;
-    } in
+    let h = value_of inside in
     stops_same g.L.Lease _ h _ _ c.args.eye.now _ c.args.arrived.items c.args.seen.now c.args.expected c.self.view_is (stops_early g.L.Lease h _ c.args.eye.now _ c.args.arrived.items c.args.seen.now c.args.expected refl refl refl (c.decide_all.ensures.eye))
 
 pub returns-in_err-on-2-clause-stops : goal.returns-in_err-on-2-clause-stops
 returns-in_err-on-2-clause-stops g c =
     let inside = c.self.inside in
-    let h : HandlerOf g.row.L.Denot = record {
-      width = inside.width;
-      height = inside.height;
-      tree = inside.tree;
-      pending = inside.queues.pending;
-      frames = inside.facts.frames;
-      on = inside.on.items;
-      last = inside.queues.last;
-      is_spent = inside.is_spent;
-      lent = option_map (λ lent. lent.value) inside.lent;
-      kept = inside.kept.items;
-    } in
-    let fits = subst (λ (x : HandlerOf g.row.L.Denot). x.is_spent ≡ false → FitsHandler g.L.Lease c.args.eye.now x) (sym c.self.view_is) c.requires.fits c.if-self.false in
+    let h = value_of inside in
+    let fits = fits_inside g.L.Lease c.args.eye.now (value_of c.self.inside) c.args.self.now c.self.view_is c.requires.fits c.if-self.false in
     let on = c.in_ok-on.ensures ∙ ap (λ v. v.items) c.replace-readings.ensures.value in
     let stage = c.stage.inside in
-    let made : StageOf g.row.L.Denot = record { tree = stage.tree; on = stage.on.items; commits = stage.commits.items; gone = stage.gone.items } in
+    let made = stage_of stage in
     let decides = subst (λ (t : TreeOf). DecidesAll g.L.Lease t c.in_ok-on.on.items inside.facts inside.queues c.args.eye.now c.args.arrived.items c.args.seen.now c.args.expected
     c.in_ok-stage.stage c.in_ok-stage.held.items c.decide_all.new.queues c.decide_all.new.facts c.decide_all.new.eye) c.replace-tree.ensures.value c.in_ok-stage.ensures.decides in
     let t : Tried g.L.Lease h inside.facts inside.queues c.in_ok-on.on.items c.args.eye.now c.decide_all.new.eye c.settle_all-settled.new.eye c.args.arrived.items c.args.seen.now c.args.expected
@@ -522,22 +356,11 @@ returns-in_err-on-2-clause-stops g c =
 pub returns-in_err-make-clause-stops : goal.returns-in_err-make-clause-stops
 returns-in_err-make-clause-stops g c =
     let inside = c.self.inside in
-    let h : HandlerOf g.row.L.Denot = record {
-      width = inside.width;
-      height = inside.height;
-      tree = inside.tree;
-      pending = inside.queues.pending;
-      frames = inside.facts.frames;
-      on = inside.on.items;
-      last = inside.queues.last;
-      is_spent = inside.is_spent;
-      lent = option_map (λ lent. lent.value) inside.lent;
-      kept = inside.kept.items;
-    } in
-    let fits = subst (λ (x : HandlerOf g.row.L.Denot). x.is_spent ≡ false → FitsHandler g.L.Lease c.args.eye.now x) (sym c.self.view_is) c.requires.fits c.if-self.false in
+    let h = value_of inside in
+    let fits = fits_inside g.L.Lease c.args.eye.now (value_of c.self.inside) c.args.self.now c.self.view_is c.requires.fits c.if-self.false in
     let on = c.in_ok-on.ensures ∙ ap (λ v. v.items) c.replace-readings.ensures.value in
     let stage = c.stage.inside in
-    let made : StageOf g.row.L.Denot = record { tree = stage.tree; on = stage.on.items; commits = stage.commits.items; gone = stage.gone.items } in
+    let made = stage_of stage in
     let decides = subst (λ (t : TreeOf). DecidesAll g.L.Lease t c.in_ok-on.on.items inside.facts inside.queues c.args.eye.now c.args.arrived.items c.args.seen.now c.args.expected
     c.in_ok-stage.stage c.in_ok-stage.held.items c.decide_all.new.queues c.decide_all.new.facts c.decide_all.new.eye) c.replace-tree.ensures.value c.in_ok-stage.ensures.decides in
     let t : Tried g.L.Lease h inside.facts inside.queues c.in_ok-on.on.items c.args.eye.now c.decide_all.new.eye c.settle_all-settled.new.eye c.args.arrived.items c.args.seen.now c.args.expected

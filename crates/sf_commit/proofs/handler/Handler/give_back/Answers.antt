@@ -1,5 +1,4 @@
 use Rattle.std.proofs.Common.{◌≡◌, ◌∙◌, ◌++◌, [], List, Some, None, ap, length, map, sym, subst, arith}
-use Rattle.std.specs.Option.{option_map}
 use Rattle.std.proofs.lemmas.List.{length-map}
 use Rattle.sf_view.specs.sf_picture.declared.picture.Picture.{Picture}
 use Rattle.sf_commit_next.specs.sf_txn.Leases.{IsEyeAfter}
@@ -8,6 +7,7 @@ use Rattle.sf_commit.specs.Handlers.{HandlerOf}
 use Rattle.sf_commit.specs.Leases.{pictures, pictures_here}
 use Rattle.sf_commit.specs.Lending.{AllKept, AreThere, KeptRead, ends_of, read_of}
 use Rattle.sf_commit.specs.OnLayers.{OnLayer, at_hand}
+use Rattle.sf_commit.proofs.ValueLemmas.{value_of}
 use Rattle.sf_commit.proofs.handler.Handler.give_back.Goals as goal
 
 pub put_back-requires-clause-fits : goal.put_back-requires-clause-fits
@@ -18,18 +18,7 @@ put_back-requires-clause-fits g c =
 pub put_back-requires-clause-lends : goal.put_back-requires-clause-lends
 put_back-requires-clause-lends g c =
     let inside = c.self.inside in
-    let h : HandlerOf g.row.L.Denot = record {
-      width = inside.width;
-      height = inside.height;
-      tree = inside.tree;
-      pending = inside.queues.pending;
-      frames = inside.facts.frames;
-      on = inside.on.items;
-      last = inside.queues.last;
-      is_spent = inside.is_spent;
-      lent = option_map (λ lent. lent.value) inside.lent;
-      kept = inside.kept.items;
-    } in
+    let h = value_of inside in
     let same = subst (λ (x : HandlerOf g.row.L.Denot). x.lent ≡ Some c.args.contents) (sym c.self.view_is) c.requires.lent ∙ ap (λ (ps : List Picture). Some ps) (sym c.contents.view_is) in
     subst (λ (xs : List (OnLayer g.row.L.Denot)). AreThere g.L.Lease (map (λ (picture : Picture). Some picture) c.contents.inside.list.items) (c.replace-kept.result.items ++ map read_of xs))
     (sym c.deref.ensures.value)
@@ -49,18 +38,7 @@ put_back-requires-clause-room g c =
 pub put_back-requires-clause-unchanged : goal.put_back-requires-clause-unchanged
 put_back-requires-clause-unchanged g c =
     let inside = c.self.inside in
-    let h : HandlerOf g.row.L.Denot = record {
-      width = inside.width;
-      height = inside.height;
-      tree = inside.tree;
-      pending = inside.queues.pending;
-      frames = inside.facts.frames;
-      on = inside.on.items;
-      last = inside.queues.last;
-      is_spent = inside.is_spent;
-      lent = option_map (λ lent. lent.value) inside.lent;
-      kept = inside.kept.items;
-    } in
+    let h = value_of inside in
     let same = subst (λ (x : HandlerOf g.row.L.Denot). x.lent ≡ Some c.args.contents) (sym c.self.view_is) c.requires.lent ∙ ap (λ (ps : List Picture). Some ps) (sym c.contents.view_is) in
     λ e. let both = unchanged_these g.L.Lease h inside.contents.items c.contents.inside.list.items inside.has_changed same c.self.invariant.0 e in
     (both.0 ∙ ap (λ (xs : List (OnLayer g.row.L.Denot)). pictures g.L.Lease xs) (sym c.deref.ensures.value), ap (λ v. v.items) c.replace-kept.ensures.value ∙ both.1)
@@ -68,18 +46,7 @@ put_back-requires-clause-unchanged g c =
 pub invariant_of-self : goal.invariant_of-self
 invariant_of-self g c =
     let inside = c.self.inside in
-    let h : HandlerOf g.row.L.Denot = record {
-      width = inside.width;
-      height = inside.height;
-      tree = inside.tree;
-      pending = inside.queues.pending;
-      frames = inside.facts.frames;
-      on = inside.on.items;
-      last = inside.queues.last;
-      is_spent = inside.is_spent;
-      lent = option_map (λ lent. lent.value) inside.lent;
-      kept = inside.kept.items;
-    } in
+    let h = value_of inside in
     let none = ap (λ v. v.items) c.replace-kept.ensures.after ∙ c.new.ensures.items in
     let many = ap (λ (xs : List (OnLayer g.row.L.Denot)). length xs) c.mark_at_hand.ensures ∙ length-map inside.on.items at_hand in (
       back_made g.L.Lease h _ inside.contents.items _ inside.has_changed c.self.invariant.0

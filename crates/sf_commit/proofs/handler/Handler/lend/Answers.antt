@@ -1,27 +1,16 @@
 use Rattle.std.proofs.Common.{◌≡◌, ◌∙◌, List, Some, None, ap, length, sym, subst, arith}
-use Rattle.std.specs.Option.{option_map}
 use Rattle.sf_commit.proofs.LendLemmas.{length_lent}
 use Rattle.sf_commit.proofs.MarkLemmas.{lent_length, lent_made, pictures_kept, room_lent}
 use Rattle.sf_commit.specs.Handlers.{HandlerOf}
 use Rattle.sf_commit.specs.Leases.{pictures}
 use Rattle.sf_commit.specs.OnLayers.{OnLayer, lent_from}
+use Rattle.sf_commit.proofs.ValueLemmas.{value_of}
 use Rattle.sf_commit.proofs.handler.Handler.lend.Goals as goal
 
 pub invariant_of-self : goal.invariant_of-self
 invariant_of-self g c =
     let inside = c.self.inside in
-    let h : HandlerOf g.row.L.Denot = record {
-      width = inside.width;
-      height = inside.height;
-      tree = inside.tree;
-      pending = inside.queues.pending;
-      frames = inside.facts.frames;
-      on = inside.on.items;
-      last = inside.queues.last;
-      is_spent = inside.is_spent;
-      lent = option_map (λ lent. lent.value) inside.lent;
-      kept = inside.kept.items;
-    } in
+    let h = value_of inside in
     let none = subst (λ (x : HandlerOf g.row.L.Denot). x.lent ≡ None) (sym c.self.view_is) c.requires in
     let all = pictures_kept g.L.Lease h inside.contents.items inside.has_changed none c.self.invariant.0 in
     let list = ap (λ v. v.items) c.replace-list.ensures.value ∙ all in
@@ -48,18 +37,7 @@ invariant_of-self g c =
 pub returns-clause-pictures : goal.returns-clause-pictures
 returns-clause-pictures g c =
     let inside = c.self.inside in
-    let h : HandlerOf g.row.L.Denot = record {
-      width = inside.width;
-      height = inside.height;
-      tree = inside.tree;
-      pending = inside.queues.pending;
-      frames = inside.facts.frames;
-      on = inside.on.items;
-      last = inside.queues.last;
-      is_spent = inside.is_spent;
-      lent = option_map (λ lent. lent.value) inside.lent;
-      kept = inside.kept.items;
-    } in
+    let h = value_of inside in
     let none = subst (λ (x : HandlerOf g.row.L.Denot). x.lent ≡ None) (sym c.self.view_is) c.requires in
     ap (λ v. v.items) c.replace-list.ensures.value ∙ (pictures_kept g.L.Lease h inside.contents.items inside.has_changed none c.self.invariant.0
     ∙ ap (λ (x : HandlerOf g.row.L.Denot). pictures g.L.Lease x.on) c.self.view_is)
@@ -67,18 +45,7 @@ returns-clause-pictures g c =
 pub returns-clause-lent : goal.returns-clause-lent
 returns-clause-lent g c =
     let inside = c.self.inside in
-    let h : HandlerOf g.row.L.Denot = record {
-      width = inside.width;
-      height = inside.height;
-      tree = inside.tree;
-      pending = inside.queues.pending;
-      frames = inside.facts.frames;
-      on = inside.on.items;
-      last = inside.queues.last;
-      is_spent = inside.is_spent;
-      lent = option_map (λ lent. lent.value) inside.lent;
-      kept = inside.kept.items;
-    } in
+    let h = value_of inside in
     let none = subst (λ (x : HandlerOf g.row.L.Denot). x.lent ≡ None) (sym c.self.view_is) c.requires in
     let given = c.of.ensures ∙ (ap (λ v. v.items) c.replace-list.ensures.value ∙ pictures_kept g.L.Lease h inside.contents.items inside.has_changed none c.self.invariant.0) in
     (λ i. record {
