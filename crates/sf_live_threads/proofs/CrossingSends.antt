@@ -14,8 +14,6 @@ use Rattle.sf_picture.specs.contracts.picture.Picture as picture
 use Rattle.sf_picture.proofs.picture.Picture.TheSendSync as picture_shown
 use Rattle.sf_live_seats.specs.contracts.locks.Locks as locks
 use Rattle.sf_turns.specs.declared.naming.TableName as naming
-use Rattle.sf_live_watch.specs.contracts.watch.Watch as watch
-use Rattle.sf_live_watch.proofs.watch.Watch.TheSendSync as watch_shown
 use Rattle.sf_live_threads.specs.contracts.seated_actor.SeatedActor as seated_actor
 use Rattle.sf_live_threads.proofs.CrossingSeatedActors.{seated_actor_send}
 use Rattle.sf_live_threads.proofs.CrossingSeats.{locks_sync}
@@ -23,27 +21,18 @@ use Rattle.sf_live_threads.proofs.CrossingSeats.{locks_sync}
 u64_send : IsSend u64
 u64_send = search sendable depth 20
 
-module _ (name : Sym) (r l p w k : Lifetime) (a b c d e : Lft) (R G B : RattleType) (T : naming.Ghosts B.Denot) where
+module _ (name : Sym) (r l p : Lifetime) (a b c : Lft) (P B : RattleType) (T : naming.Ghosts B.Denot) where
   abbrev pub Taken : List RattleType
-  Taken = ShrRef r a R ∷ ShrRef l b (locks.the_row B T) ∷ ShrSlice p c picture.the_row ∷ ShrRef w d watch.the_row ∷ ShrRef k e G ∷ u64 ∷ seated_actor.the_row B T ∷ []
+  Taken = ShrRef r a P ∷ ShrRef l b (locks.the_row B T) ∷ ShrSlice p c picture.the_row ∷ u64 ∷ seated_actor.the_row B T ∷ []
 
-  pub taken_send : IsSync R → IsSync G → IsSend (TupleAt name Taken)
-  taken_send s y = declared_send (type_at name Taken) (
-    as_row_send (row_field (ShrRef r a R)) (shr_send r a R s),
+  pub taken_send : IsSync P → IsSend (TupleAt name Taken)
+  taken_send s = declared_send (type_at name Taken) (
+    as_row_send (row_field (ShrRef r a P)) (shr_send r a P s),
     (
       as_row_send (row_field (ShrRef l b (locks.the_row B T))) (shr_send l b (locks.the_row B T) (locks_sync B T)),
       (
         as_row_send (row_field (ShrSlice p c picture.the_row)) (shr_slice_send p c picture.the_row picture_shown.the_sync),
-        (
-          as_row_send (row_field (ShrRef w d watch.the_row)) (shr_send w d watch.the_row watch_shown.the_sync),
-          (
-            as_row_send (row_field (ShrRef k e G)) (shr_send k e G y),
-            (
-              as_row_send (row_field u64) u64_send,
-              (as_row_send (row_field (seated_actor.the_row B T)) (seated_actor_send B T), tt),
-            ),
-          ),
-        ),
+        (as_row_send (row_field u64) u64_send, (as_row_send (row_field (seated_actor.the_row B T)) (seated_actor_send B T), tt)),
       ),
     ),
   )

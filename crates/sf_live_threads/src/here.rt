@@ -6,25 +6,22 @@ ghost use Rattle.sf_live_threads.specs.declared.seated_actor.SeatedActor.{Seated
 ghost use Rattle.sf_live_threads.specs.Backs.{IfWhole, IsFit};
 ghost use Rattle.sf_live_threads.specs.inner.Tasks.{IsFitTask, Stays};
 
+use crate::pacing::Pacing;
 use crate::seated_actor::Back;
 use crate::task::Task;
 use crate::try_next::try_next;
 use sf_actor_steps::Stepped;
 use sf_io::Gate;
 use sf_live_seats::Locks;
-use sf_live_watch::Watch;
 use sf_picture::Picture;
 use sf_turns::TableName;
-use std::alloc::Global;
 use std::sync::Wait;
 
 /// What is here of a seated actor has one try of its next step, unless it found no memory.
 fn try_back<R: Wait, G: Gate, B: TableName>(
-    rt: &R,
+    pacing: &Pacing<R, G>,
     locks: &Locks<B>,
     pictures: &[Picture],
-    watch: &Watch,
-    gate: &G,
     back: Back<B>,
 ) -> Back<B>
     requires { IsFit B.table locks.now pictures.now back }
@@ -35,15 +32,15 @@ fn try_back<R: Wait, G: Gate, B: TableName>(
         Back::Spent(seated_actor) => return Back::Spent(seated_actor),
         Back::Whole(seated_actor) => seated_actor,
     };
-    let (seated_actor, stepped, noted) = try_next(rt, locks, pictures, gate, seated_actor);
+    let (seated_actor, stepped, noted) = try_next(pacing, locks, pictures, seated_actor);
     match stepped {
         Ok(Stepped::Done) => {
-            watch.tell_done(rt, noted.effect());
+            pacing.watch.tell_done(pacing.rt, noted.effect());
             Back::Whole(seated_actor)
         }
         Ok(Stepped::NotYet | Stepped::Ended) => Back::Whole(seated_actor),
         Err(_) => {
-            watch.stop(rt);
+            pacing.watch.stop();
             Back::Spent(seated_actor)
         }
     }
@@ -51,11 +48,9 @@ fn try_back<R: Wait, G: Gate, B: TableName>(
 
 /// A seated actor that is here has one try of its next step.
 fn try_one<'s, R: Wait, G: Gate, B: TableName>(
-    rt: &R,
+    pacing: &Pacing<R, G>,
     locks: &Locks<B>,
     pictures: &[Picture],
-    watch: &Watch,
-    gate: &G,
     task: Task<'s, B>,
 ) -> Task<'s, B>
     requires { IsFitTask B.table locks.now pictures.now task }
@@ -63,18 +58,15 @@ fn try_one<'s, R: Wait, G: Gate, B: TableName>(
 {
     match task {
         Task::Away(handle) => Task::Away(handle),
-        Task::Here(back) => Task::Here(try_back(rt, locks, pictures, watch, gate, back)),
+        Task::Here(back) => Task::Here(try_back(pacing, locks, pictures, back)),
     }
 }
 
 /// Each seated actor that is here has one try. Where none is, nothing is done.
 pub(crate) fn try_here<'s, R: Wait, G: Gate, B: TableName>(
-    rt: &R,
-    alloc: Global,
+    pacing: &Pacing<R, G>,
     locks: &Locks<B>,
     pictures: &[Picture],
-    watch: &Watch,
-    gate: &G,
     tasks: Vec<Task<'s, B>>,
 ) -> Option<Vec<Task<'s, B>>>
     requires { AllByRecursion (IsFitTask B.table locks.now pictures.now) tasks.items }
@@ -83,9 +75,9 @@ pub(crate) fn try_here<'s, R: Wait, G: Gate, B: TableName>(
     if tasks.iter().all(|task| matches!(task, Task::Away(_))) {
         return Some(tasks);
     }
-    let mut tried = Vec::new(alloc);
+    let mut tried = Vec::new(pacing.alloc);
     for task in tasks {
-        let task = try_one(rt, locks, pictures, watch, gate, task);
+        let task = try_one(pacing, locks, pictures, task);
         if tried.push(task).is_err() {
             return None;
         }

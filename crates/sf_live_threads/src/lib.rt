@@ -9,6 +9,7 @@ mod gates;
 mod here;
 mod laws;
 mod noting;
+mod pacing;
 mod run;
 mod seated_actor;
 mod seating;
@@ -21,6 +22,7 @@ mod work;
 pub use all_returned::{AllReturned, ReturnedActor};
 pub use gates::Gates;
 pub use laws::seats_do_what_steps_do;
+pub use pacing::Host;
 pub use run::{Stopped, run_actors};
 pub use seated_actor::SeatedActor;
 pub use sf_actor_steps::{

@@ -2,15 +2,15 @@
 //! wait for.
 use sf_actor_steps::{CallFault, Desk, DrawFault, Tokens};
 use sf_base::{ActorId, NoMemory, QueueId, Seen, TimelineId};
-use sf_live_watch::{Awaited, Effect};
+use sf_live_watch::{Awaited, Effect, Slots};
 use sf_picture::Picture;
 use std::alloc::Global;
 
 /// What a step did at what all share, and what it waits for if it is not done.
 #[derive(Clone, Copy)]
 pub(crate) struct Noted {
-    /// Whether it made a call on a queue.
-    calls: bool,
+    /// On which queues it made calls.
+    calls: Slots,
     /// Whether it sent a transaction.
     pub(crate) sends: bool,
     /// Whether it raised a timeline.
@@ -24,7 +24,7 @@ impl Noted {
     /// Nothing was done; a step that only looks waits for a point.
     fn nothing() -> Noted {
         Noted {
-            calls: false,
+            calls: Slots::OfNone,
             sends: false,
             signals: false,
             ends: false,
@@ -34,7 +34,7 @@ impl Noted {
 
     /// Whether it did nothing that others can see.
     pub(crate) fn is_silent(self) -> bool {
-        !(self.calls || self.sends || self.signals || self.ends)
+        !(self.calls.is_any() || self.sends || self.signals || self.ends)
     }
 
     /// What that may bring those that wait for it: a call a free slot, a signal a point, and a signal or
@@ -96,8 +96,8 @@ impl<K: Tokens, D: Desk<K>> Desk<K> for NotingDesk<D> {
     ) -> Result<K::Reply, CallFault<K::Call>> {
         let called = self.desk.call(by, queue, step, call);
         match &called {
-            Ok(_) => self.noted.calls = true,
-            Err(_) => self.noted.awaited = Awaited::Slot,
+            Ok(_) => self.noted.calls = self.noted.calls.and(queue.0),
+            Err(_) => self.noted.awaited = Awaited::Slot(queue.0),
         }
         called
     }

@@ -17,6 +17,7 @@ ghost use Rattle.sf_live_threads.specs.declared.run.Stopped.TheVariants as stopp
 
 use crate::all_returned::{AllReturned, gather};
 use crate::here::try_here;
+use crate::pacing::{Host, Pacing};
 use crate::seated_actor::SeatedActor;
 use crate::seating::seat_actors;
 use crate::task::Task;
@@ -56,12 +57,9 @@ impl From<NoMemory> for Stopped {
 /// Visits whenever something was done, until all threads rest. Seated actors that are here are tried
 /// meanwhile.
 fn attend<'s, R: Threads + Wait + Sync, G: Gate, B: TableName, V: Visit<R, B>>(
-    rt: &R,
-    alloc: Global,
+    pacing: &Pacing<R, G>,
     locks: &Locks<B>,
     pictures: &[Picture],
-    watch: &Watch,
-    gate: &G,
     first: FirstSeats<B>,
     visitor: &mut V,
     tasks: Vec<Task<'s, B>>,
@@ -77,18 +75,21 @@ fn attend<'s, R: Threads + Wait + Sync, G: Gate, B: TableName, V: Visit<R, B>>(
     let mut first = first;
     let mut tasks = tasks;
     let mut seen = 0;
-    for _ in rt.forever() {
-        let Some(news) = watch.next(rt, seen) else {
+    for _ in pacing.rt.forever() {
+        let Some(news) = pacing.watch.next(pacing.rt, seen) else {
             return Ok((first, tasks));
         };
         seen = news;
-        let Some(tried) = try_here(rt, alloc, locks, pictures, watch, gate, tasks) else {
+        let Some(tried) = try_here(pacing, locks, pictures, tasks) else {
             return Err(Stopped::NoMemory);
         };
         tasks = tried;
-        let look = Look { watch, news };
-        match visitor.visit(rt, locks, &mut first, &look) {
-            Ok(did) => look.tell(rt, did),
+        let look = Look {
+            watch: pacing.watch,
+            news,
+        };
+        match visitor.visit(pacing.rt, locks, &mut first, &look) {
+            Ok(did) => look.end(pacing.rt, did),
             Err(Ended) => return Err(Stopped::Ended),
         }
     }
@@ -105,12 +106,9 @@ fn send_out<
     V: Visit<R, B>,
 >(
     scope: &Scope<'s, E>,
-    rt: &'s R,
-    alloc: Global,
+    pacing: &'s Pacing<'s, R, G>,
     locks: &'s Locks<B>,
     pictures: &'s [Picture],
-    watch: &'s Watch,
-    gate: &'s G,
     first: FirstSeats<B>,
     visitor: &mut V,
     seated_actors: Vec<SeatedActor<B>>,
@@ -124,21 +122,10 @@ fn send_out<
     ensures left { (start : V) → V.keeps start visitor.old locks.now first → IfErr result (HasLeft (V.keeps start) (V.ended start) locks.now visitor.new) }
     ensures tasks { IfOk result (λ rest. AreTasks B.table locks.now pictures.now seated_actors.items rest.1.items) }
 {
-    let Some(tasks) = send_all(
-        scope,
-        rt,
-        alloc,
-        locks,
-        pictures,
-        watch,
-        gate,
-        seated_actors,
-    ) else {
+    let Some(tasks) = send_all(scope, pacing, locks, pictures, seated_actors) else {
         return Err(Stopped::NoMemory);
     };
-    attend(
-        rt, alloc, locks, pictures, watch, gate, first, visitor, tasks,
-    )
+    attend(pacing, locks, pictures, first, visitor, tasks)
 }
 
 /// Joins all threads, where all rest.
@@ -168,12 +155,9 @@ fn crowd<
     B: TableName + Send + Sync,
     V: Visit<R, B> + Drop,
 >(
-    rt: &R,
-    alloc: Global,
+    pacing: &Pacing<R, G>,
     locks: &Locks<B>,
     pictures: &[Picture],
-    watch: &Watch,
-    gate: &G,
     first: FirstSeats<B>,
     visitor: V,
     seated_actors: Vec<SeatedActor<B>>,
@@ -188,7 +172,7 @@ fn crowd<
 {
     thread::scope(
         thread::scope_env(),
-        rt,
+        pacing.rt,
         move |scope| -> (V, Result<(FirstSeats<B>, Vec<SeatedActor<B>>), Stopped>)
             requires first { IsFirst B.table locks.now first }
             requires kept { (start : V) × V.keeps start visitor locks.now first }
@@ -202,18 +186,15 @@ fn crowd<
             let mut visitor = visitor;
             let rest = send_out(
                 scope,
-                rt,
-                alloc,
+                pacing,
                 locks,
                 pictures,
-                watch,
-                gate,
                 first,
                 &mut visitor,
                 seated_actors,
             );
-            watch.stop(rt);
-            (visitor, join_all(rt, alloc, rest))
+            pacing.watch.stop();
+            (visitor, join_all(pacing.rt, pacing.alloc, rest))
         },
     )
 }
@@ -248,11 +229,9 @@ pub fn run_actors<
     B: TableName + Send + Sync,
     V: Visit<R, B> + Drop,
 >(
-    rt: &R,
-    alloc: Global,
+    host: Host<R, G>,
     locks: &Locks<B>,
     pictures: &[Picture],
-    gate: &G,
     first: FirstSeats<B>,
     actors: Vec<Actor<B>>,
     visitor: V,
@@ -270,18 +249,22 @@ pub fn run_actors<
     ensures returns { IfOk result.1 (Returns (V.keeps visitor) B.table locks.now pictures.now first actors.items result.0) }
     ensures left { IfErr result.1 (HasLeftOrIs (V.keeps visitor) (V.ended visitor) locks.now visitor result.0) }
 {
+    let Host { rt, alloc, gate } = host;
     let (after_seating, seated_actors) = match seat_actors(alloc, locks, first, actors) {
         Ok(after_seating) => after_seating,
         Err(_) => return (visitor, Err(Stopped::NoMemory)),
     };
     let watch = Watch::new(seated_actors.len());
-    let (visitor, rest) = crowd(
+    let pacing = Pacing {
         rt,
         alloc,
+        gate,
+        watch: &watch,
+    };
+    let (visitor, rest) = crowd(
+        &pacing,
         locks,
         pictures,
-        &watch,
-        gate,
         after_seating,
         visitor,
         seated_actors,

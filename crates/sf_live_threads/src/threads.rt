@@ -6,12 +6,12 @@ ghost use Rattle.sf_live_threads.specs.Backs.{IfWhole};
 ghost use Rattle.sf_live_threads.specs.SeatedActors.{MayTryNext};
 ghost use Rattle.sf_live_threads.specs.inner.Tasks.{AreTasks, Gives, GivesWhole, IsTask};
 
+use crate::pacing::Pacing;
 use crate::seated_actor::{Back, SeatedActor};
 use crate::task::{Brings, Task};
 use crate::work::work;
 use sf_io::Gate;
 use sf_live_seats::Locks;
-use sf_live_watch::Watch;
 use sf_picture::Picture;
 use sf_turns::TableName;
 use std::alloc::Global;
@@ -23,11 +23,9 @@ use std::thread::{Scope, Threads};
 /// actor's at the watch.
 pub(crate) fn send<'s, E, R: Wait + Sync, G: Gate + Sync, B: TableName + Send + Sync + 's>(
     scope: &Scope<'s, E>,
-    rt: &'s R,
+    pacing: &'s Pacing<'s, R, G>,
     locks: &'s Locks<B>,
     pictures: &'s [Picture],
-    watch: &'s Watch,
-    gate: &'s G,
     index: usize,
     seated_actor: SeatedActor<B>,
 ) -> Task<'s, B>
@@ -46,12 +44,12 @@ pub(crate) fn send<'s, E, R: Wait + Sync, G: Gate + Sync, B: TableName + Send + 
             requires index { index < 64 }
             requires may_try_next { MayTryNext B.table locks.now pictures.now seated_actor }
             ensures { IfWhole B.table locks.entry.now pictures.entry.now seated_actor result }
-        { work(rt, locks, pictures, watch, gate, index, seated_actor) },
+        { work(pacing, locks, pictures, index, seated_actor) },
     );
     match started {
         Ok(handle) => Task::Away(handle),
         Err(refused) => {
-            watch.turn_away(rt, index);
+            pacing.watch.turn_away(pacing.rt, index);
             Task::Here((refused.value)())
         }
     }
@@ -60,22 +58,19 @@ pub(crate) fn send<'s, E, R: Wait + Sync, G: Gate + Sync, B: TableName + Send + 
 /// Starts a thread for each seated actor.
 pub(crate) fn send_all<'s, E, R: Wait + Sync, G: Gate + Sync, B: TableName + Send + Sync + 's>(
     scope: &Scope<'s, E>,
-    rt: &'s R,
-    alloc: Global,
+    pacing: &'s Pacing<'s, R, G>,
     locks: &'s Locks<B>,
     pictures: &'s [Picture],
-    watch: &'s Watch,
-    gate: &'s G,
     seated_actors: Vec<SeatedActor<B>>,
 ) -> Option<Vec<Task<'s, B>>>
     requires few { length seated_actors.items ≤ 64 }
     requires may_try_next { AllByRecursion (MayTryNext B.table locks.now pictures.now) seated_actors.items }
     ensures { IfSome result (λ tasks. AreTasks B.table locks.now pictures.now seated_actors.items tasks.items) }
 {
-    let mut tasks = Vec::new(alloc);
+    let mut tasks = Vec::new(pacing.alloc);
     for seated_actor in seated_actors {
         let index = tasks.len();
-        let task = send(scope, rt, locks, pictures, watch, gate, index, seated_actor);
+        let task = send(scope, pacing, locks, pictures, index, seated_actor);
         if tasks.push(task).is_err() {
             return None;
         }

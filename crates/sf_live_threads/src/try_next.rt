@@ -4,6 +4,7 @@ ghost use Rattle.std.specs.Prelude.{IfOk};
 ghost use Rattle.sf_live_threads.specs.SeatedActors.{MayTryNext, TriesNext};
 
 use crate::noting::{Noted, NotingDesk};
+use crate::pacing::Pacing;
 use crate::seated_actor::SeatedActor;
 use sf_actor_steps::Stepped;
 use sf_base::NoMemory;
@@ -16,10 +17,9 @@ use std::sync::Wait;
 /// One try of a seated actor's next step, over its own seats, and what it did at what all share. Before
 /// a step's first try the gate is passed. One that found no memory does no more steps.
 pub(crate) fn try_next<R: Wait, G: Gate, B: TableName>(
-    rt: &R,
+    pacing: &Pacing<R, G>,
     locks: &Locks<B>,
     pictures: &[Picture],
-    gate: &G,
     seated_actor: SeatedActor<B>,
 ) -> (SeatedActor<B>, Result<Stepped, NoMemory>, Noted)
     requires { MayTryNext B.table locks.now pictures.now seated_actor }
@@ -30,8 +30,8 @@ pub(crate) fn try_next<R: Wait, G: Gate, B: TableName>(
         seats,
         gates,
     } = seated_actor;
-    let gates = gates.ready(rt, gate, &actor);
-    let desk = SharedDesk::new(rt, locks, seats);
+    let gates = gates.ready(pacing.rt, pacing.gate, &actor);
+    let desk = SharedDesk::new(pacing.rt, locks, seats);
     let mut noting = NotingDesk::new(desk);
     let stepped = actor.try_step(&mut noting, pictures);
     let (desk, noted) = noting.into_parts();

@@ -7,7 +7,7 @@ ghost use Rattle.sf_live_seats.specs.First.{IsFirst};
 ghost use Rattle.sf_live_threads.specs.Visits.{LeavesGiven};
 
 use sf_live_seats::{FirstSeats, Locks};
-use sf_live_watch::{Effect, Watch};
+use sf_live_watch::{Effect, Slots, Watch};
 use sf_turns::TableName;
 use std::sync::Wait;
 use std::thread::Threads;
@@ -16,12 +16,19 @@ use std::thread::Threads;
 #[derive(Clone, Copy)]
 pub struct Ended;
 
-/// What a visit may bring that did something: it gives buffers back, and ends turns at them.
-const OF_VISIT: Effect = Effect {
-    slots: true,
+/// What the part of a visit before its look may bring, where it did something: it gives buffers back.
+/// Their pixels are read up to the end of the visit.
+const OF_LOOK: Effect = Effect {
+    slots: Slots::OfAny,
     points: false,
-    turns: true,
+    turns: false,
     looks: true,
+};
+
+/// What a whole visit may bring that did something: turns at the buffers that it gave back end, too.
+const OF_VISIT: Effect = Effect {
+    turns: true,
+    ..OF_LOOK
 };
 
 /// A visitor's look at all that was done up to some news.
@@ -35,9 +42,19 @@ impl<'a> Look<'a> {
     /// Notifies threads that wait for it that all was looked at, before the part that follows is
     /// over; and whether anything was done that may let a thread go on.
     pub fn tell<R: Wait>(&self, rt: &R, did: bool) {
-        self.watch.tell_looked(rt, self.news);
+        self.tell_effect(rt, did, OF_LOOK);
+    }
+
+    /// The visit is over.
+    pub(crate) fn end<R: Wait>(&self, rt: &R, did: bool) {
+        self.tell_effect(rt, did, OF_VISIT);
+    }
+
+    /// All was looked at; and what was done has this effect, if anything was.
+    fn tell_effect<R: Wait>(&self, rt: &R, did: bool, effect: Effect) {
+        self.watch.tell_looked(self.news);
         if did {
-            self.watch.tell_done(rt, OF_VISIT);
+            self.watch.tell_done(rt, effect);
         }
     }
 }

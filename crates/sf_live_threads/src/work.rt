@@ -5,6 +5,7 @@ ghost use Rattle.sf_live_threads.specs.SeatedActors.{MayTryNext};
 ghost use Rattle.sf_live_threads.specs.Backs.{IfWhole};
 
 use crate::noting::Noted;
+use crate::pacing::Pacing;
 use crate::seated_actor::{Back, SeatedActor};
 use crate::try_next::try_next;
 use sf_actor_steps::Stepped;
@@ -19,9 +20,12 @@ use std::sync::Wait;
 /// goes on; behind a transaction it does once the visitor has looked at it.
 fn tell_step<R: Wait>(rt: &R, watch: &Watch, noted: Noted) -> bool {
     if noted.is_silent() {
-        return !watch.is_stopped(rt);
+        return !watch.is_stopped();
     }
-    watch.tell_done(rt, noted.effect()) && (!noted.sends || watch.wait_for_look(rt))
+    match watch.tell_done(rt, noted.effect()) {
+        Some(news) => !noted.sends || watch.wait_for_look(rt, news),
+        None => false,
+    }
 }
 
 /// What a thread does after a try, with the news before it. Whether it goes on.
@@ -40,11 +44,9 @@ fn goes_on<R: Wait>(rt: &R, watch: &Watch, seen: u64, stepped: Stepped, noted: N
 /// can't be done it sleeps, and so it does after a transaction until the visitor has looked at it.
 /// One for which no thread could be started is left as it is. Out of memory, all are stopped.
 pub(crate) fn work<R: Wait, G: Gate, B: TableName>(
-    rt: &R,
+    pacing: &Pacing<R, G>,
     locks: &Locks<B>,
     pictures: &[Picture],
-    watch: &Watch,
-    gate: &G,
     index: usize,
     seated_actor: SeatedActor<B>,
 ) -> Back<B>
@@ -52,13 +54,14 @@ pub(crate) fn work<R: Wait, G: Gate, B: TableName>(
     requires may_try_next { MayTryNext B.table locks.now pictures.now seated_actor }
     ensures { IfWhole B.table locks.now pictures.now seated_actor result }
 {
+    let (rt, watch) = (pacing.rt, pacing.watch);
     let mut seated_actor = seated_actor;
     if watch.is_turned_away(rt, index) {
         return Back::Whole(seated_actor);
     }
     for _ in rt.forever() {
-        let seen = watch.news(rt);
-        let (after, stepped, noted) = try_next(rt, locks, pictures, gate, seated_actor);
+        let seen = watch.news();
+        let (after, stepped, noted) = try_next(pacing, locks, pictures, seated_actor);
         seated_actor = after;
         match stepped {
             Ok(stepped) => {
@@ -67,7 +70,7 @@ pub(crate) fn work<R: Wait, G: Gate, B: TableName>(
                 }
             }
             Err(_) => {
-                watch.stop(rt);
+                watch.stop();
                 return Back::Spent(seated_actor);
             }
         }

@@ -1,6 +1,6 @@
 //! Calls on a watch by one thread, and threads that wait for each other's news and sleep meanwhile.
 use crate::words::{number, words};
-use sf_live_watch::{Awaited, Effect, MOST_WATCHED, Watch};
+use sf_live_watch::{Awaited, Effect, MOST_WATCHED, Slots, Watch};
 use std::sync::Wait;
 use std::sync::atomic::{AtomicUsize, Ordering};
 use std::thread::Threads;
@@ -8,7 +8,7 @@ use std::{io, thread};
 
 /// Nothing that a thread waits for, but something to look at.
 const NOTHING: Effect = Effect {
-    slots: false,
+    slots: Slots::OfNone,
     points: false,
     turns: false,
     looks: true,
@@ -23,8 +23,8 @@ const SILENT: Effect = Effect {
 /// What brings only this.
 fn bringing(awaited: Awaited) -> Effect {
     match awaited {
-        Awaited::Slot => Effect {
-            slots: true,
+        Awaited::Slot(queue) => Effect {
+            slots: Slots::Of(queue),
             ..NOTHING
         },
         Awaited::Point => Effect {
@@ -41,7 +41,7 @@ fn bringing(awaited: Awaited) -> Effect {
 /// What the thread at a place waits for: threads that follow one another wait for different things.
 fn awaited_at(place: usize) -> Awaited {
     match place % 3 {
-        0 => Awaited::Slot,
+        0 => Awaited::Slot(1),
         1 => Awaited::Point,
         _ => Awaited::Turn,
     }
@@ -51,7 +51,7 @@ fn awaited_at(place: usize) -> Awaited {
 /// Whether it did.
 fn raise_in_turn<R: Wait>(rt: &R, watch: &Watch, count: &AtomicUsize, place: usize) -> bool {
     for _ in rt.forever() {
-        let seen = watch.news(rt);
+        let seen = watch.news();
         if count.load(Ordering::SeqCst) == place {
             let next = count.fetch_add(1, Ordering::SeqCst).wrapping_add(1);
             watch.tell_done(rt, bringing(awaited_at(next)));
@@ -69,7 +69,7 @@ fn raise_in_turn<R: Wait>(rt: &R, watch: &Watch, count: &AtomicUsize, place: usi
 fn count_wakes<R: Wait>(rt: &R, watch: &Watch, awaited: Awaited) -> usize {
     let mut wakes = 0usize;
     for _ in rt.forever() {
-        let seen = watch.news(rt);
+        let seen = watch.news();
         if !watch.idle(rt, awaited, seen) {
             return wakes;
         }
@@ -80,7 +80,7 @@ fn count_wakes<R: Wait>(rt: &R, watch: &Watch, awaited: Awaited) -> usize {
 
 /// Waits until all rest, where nothing is done any more.
 fn wait_for_rest<R: Wait>(rt: &R, watch: &Watch) {
-    let seen = watch.news(rt);
+    let seen = watch.news();
     watch.next(rt, seen);
 }
 
@@ -104,7 +104,7 @@ fn wakes_of<R: Threads + Wait + Sync>(
             shared.tell_done(rt, effect);
         }
         wait_for_rest(rt, shared);
-        shared.stop(rt);
+        shared.stop();
         waiting.join(rt)
     })
 }
@@ -118,7 +118,7 @@ fn look<R: Wait>(rt: &R, watch: &Watch) -> bool {
             None => break,
         }
     }
-    watch.stop(rt);
+    watch.stop();
     seen != 0
 }
 
@@ -159,8 +159,11 @@ fn do_and_wait<R: Wait>(
 ) {
     for i in 0..often {
         done.store(i + 1, Ordering::SeqCst);
-        watch.tell_done(rt, NOTHING);
-        if !watch.wait_for_look(rt) || seen.load(Ordering::SeqCst) <= i {
+        let looked = match watch.tell_done(rt, NOTHING) {
+            Some(told) => watch.wait_for_look(rt, told),
+            None => false,
+        };
+        if !looked || seen.load(Ordering::SeqCst) <= i {
             missed.fetch_add(1, Ordering::SeqCst);
         }
     }
@@ -176,9 +179,9 @@ fn look_at<R: Wait>(rt: &R, watch: &Watch, done: &AtomicUsize, seen: &AtomicUsiz
             None => break,
         }
         seen.store(done.load(Ordering::SeqCst), Ordering::SeqCst);
-        watch.tell_looked(rt, latest);
+        watch.tell_looked(latest);
     }
-    watch.stop(rt);
+    watch.stop();
 }
 
 /// How often a thread went on before what it did was looked at, and what was seen of it in the end.
@@ -206,8 +209,10 @@ fn goes_on_unseen<R: Threads + Wait + Sync>(rt: &R) -> bool {
     let shared = &watch;
     thread::scope(thread::scope_env(), rt, move |scope| {
         let started = scope.spawn(move || -> bool {
-            shared.tell_done(rt, NOTHING);
-            shared.wait_for_look(rt)
+            match shared.tell_done(rt, NOTHING) {
+                Some(told) => shared.wait_for_look(rt, told),
+                None => false,
+            }
         });
         shared.turn_away(rt, 1);
         match started {
@@ -237,7 +242,8 @@ fn counts_to<R: Threads + Wait + Sync>(
 /// What a word says that a thread waits for.
 fn awaited(word: &str) -> Option<Awaited> {
     match word {
-        "slot" => Some(Awaited::Slot),
+        "slot" => Some(Awaited::Slot(1)),
+        "slot-2" => Some(Awaited::Slot(2)),
         "point" => Some(Awaited::Point),
         "turn" => Some(Awaited::Turn),
         _ => None,
@@ -248,13 +254,23 @@ fn awaited(word: &str) -> Option<Awaited> {
 fn effect(word: &str) -> Effect {
     match (awaited(word), word) {
         (Some(awaited), _) => bringing(awaited),
+        (None, "slots") => Effect {
+            slots: Slots::OfAny,
+            ..NOTHING
+        },
         (None, "silent") => SILENT,
         (None, _) => NOTHING,
     }
 }
 
-/// Makes the call of a line, and writes what it answered.
-fn answer<R: Print + Threads + Wait + Sync>(rt: &R, watch: &Watch, line: &str) -> io::Result<()> {
+/// Makes the call of a line, and writes what it answered. A wait is for a look at the last news for the
+/// starter.
+fn answer<R: Print + Threads + Wait + Sync>(
+    rt: &R,
+    watch: &Watch,
+    told: &mut u64,
+    line: &str,
+) -> io::Result<()> {
     let [word, first, second, third] = words(line);
     let value = number(first).unwrap_or(0);
     let place = value as usize;
@@ -271,19 +287,25 @@ fn answer<R: Print + Threads + Wait + Sync>(rt: &R, watch: &Watch, line: &str) -
             None => println!(rt; "{line}: none"),
         },
         "looked" => {
-            watch.tell_looked(rt, value);
+            watch.tell_looked(value);
             println!(rt; "{line}: told")
         }
-        "done" => println!(rt; "{line}: {}", watch.tell_done(rt, effect(first))),
+        "done" => {
+            let news = watch.tell_done(rt, effect(first));
+            if let (Some(news), true) = (news, effect(first).looks) {
+                *told = news;
+            }
+            println!(rt; "{line}: {}", news.is_some())
+        }
         "ended" => {
             watch.tell_ended(rt);
             println!(rt; "{line}: told")
         }
-        "is-stopped" => println!(rt; "{line}: {}", watch.is_stopped(rt)),
-        "wait" => println!(rt; "{line}: {}", watch.wait_for_look(rt)),
+        "is-stopped" => println!(rt; "{line}: {}", watch.is_stopped()),
+        "wait" => println!(rt; "{line}: {}", watch.wait_for_look(rt, *told)),
         "unseen" => println!(rt; "{line}: {}", goes_on_unseen(rt)),
         "stop" => {
-            watch.stop(rt);
+            watch.stop();
             println!(rt; "{line}: told")
         }
         "count" => {
@@ -310,8 +332,9 @@ fn answer<R: Print + Threads + Wait + Sync>(rt: &R, watch: &Watch, line: &str) -
 
 pub fn play<R: Print + Threads + Wait + Sync>(rt: &R, calls: &[String]) -> io::Result<()> {
     let watch = Watch::new(2);
+    let mut told = 1;
     for line in calls {
-        answer(rt, &watch, line)?;
+        answer(rt, &watch, &mut told, line)?;
     }
     Ok(())
 }
