@@ -1,5 +1,8 @@
 -- Where the buffers of a queue are, after calls on it.
-use Rattle.std.specs.Prelude.{◌≡◌, ℕ, Some, Contains}
+use Rattle.std.specs.Prelude.{◌≡◌, ℕ, List, Some, Contains}
+use Rattle.sf_slots.specs.History.{told_by}
+use Rattle.sf_slots.specs.Tells.{AreReplies}
+use Rattle.sf_slots.specs.declared.calls.Entry.{Entry}
 use Rattle.sf_slots.specs.declared.item.PlainItem.{PlainItem}
 use Rattle.sf_slots.specs.declared.slot.Held.{Held}
 use Rattle.sf_slots.specs.declared.slot.SlotState.{SlotState}
@@ -35,3 +38,15 @@ IsThere told number (Taken slot) = HasBuffer told slot number Acquired
 -- the buffer of this number is somewhere
 abbrev pub IsSomewhere : Told → ℕ → Type 0
 IsSomewhere told number = (place : Place) × IsThere told number place
+
+-- Calls on a queue whose replies are those that its calls say.
+pub record RepliedCalls : Type 0 where
+  -- the size of the queue's buffers
+  pub width : ℕ
+  pub height : ℕ
+  pub calls : List Entry
+  pub replies : AreReplies width height calls
+
+-- the queue after them
+abbrev pub told_after : RepliedCalls → Told
+told_after so = told_by so.width so.height so.calls

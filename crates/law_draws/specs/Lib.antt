@@ -1,3 +1,4 @@
+pub mod Changes
 pub mod Doing
 pub mod Placed
 pub mod Standing

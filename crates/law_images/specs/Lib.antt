@@ -1,3 +1,4 @@
 pub mod Counts
 pub mod Pixels
 pub mod Seen
+pub mod Trees

@@ -5,11 +5,15 @@ use Rattle.sf_base.specs.declared.pixel.Rgba.{Rgba}
 use Rattle.sf_layer.specs.declared.layer.Layer.{Layer}
 use Rattle.sf_picture.specs.declared.picture.Picture.{Picture}
 use Rattle.sf_view.specs.Contents.{content_of}
-use Rattle.sf_view.specs.Image.{layer_alpha, paint_content}
+use Rattle.sf_view.specs.Image.{layer_alpha, opaque_black, paint_content, under_layers}
 
 -- the layers whose alpha does not come to 0
 abbrev pub that_show : List Layer → List Layer → List Layer
 that_show tree layers = filter (λ (layer : Layer). not (layer_alpha tree layer == 0)) layers
+
+-- these layers, painted over black
+abbrev pub over_black : (ℕ → Picture) → List Layer → ℤ → ℤ → List Layer → Rgba
+over_black picture tree x y layers = under_layers picture tree x y opaque_black layers
 
 -- a layer of this number, painted over some pixel
 pub record IsPaintedLast (picture : ℕ → Picture) (tree : List Layer) (x y : ℤ) (pixel : Rgba) (number : LayerId) : Type 0 where

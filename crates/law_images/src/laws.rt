@@ -1,6 +1,6 @@
 //! The laws of images, of hit tests and of trees with mirrors.
 ghost use Rattle.std.specs.Prelude.{◌≡◌, ◌≤◌, ◌+◌, ◌*◌, ◌&&◌, ℕ, ℤ, not, if◌then◌else◌};
-ghost use Rattle.std.specs.Prelude.{List, [], ◌∷◌, ◌++◌, None, Some, length, slice_get};
+ghost use Rattle.std.specs.Prelude.{List, [], ◌∷◌, ◌++◌, None, length};
 ghost use Rattle.sf_base.specs.Paint.{painted};
 ghost use Rattle.sf_base.specs.declared.ids.LayerId.{LayerId};
 ghost use Rattle.sf_base.specs.declared.pixel.Rgba.{Rgba};
@@ -9,15 +9,16 @@ ghost use Rattle.sf_picture.specs.declared.picture.Picture.{Picture};
 ghost use Rattle.sf_tree.specs.DrawOrder.{draw_order};
 ghost use Rattle.sf_tree.specs.Kept.{IsTree};
 ghost use Rattle.sf_tree.specs.Layers.{parent_layer};
-ghost use Rattle.sf_tree.specs.Showing.{parent_passes, relative_passes, shows};
+ghost use Rattle.sf_tree.specs.Showing.{shows};
 ghost use Rattle.sf_view.specs.Ancestry.{and_above, ancestry};
-ghost use Rattle.sf_view.specs.Image.{image_in, opaque_black, under_layers};
+ghost use Rattle.sf_view.specs.Image.{image_in, opaque_black};
 ghost use Rattle.sf_output_shown.specs.Copies.{written};
 ghost use Rattle.sf_output_shown.specs.Cuts.{cut};
 ghost use Rattle.sf_output_shown.specs.Hits.{front};
 ghost use Rattle.law_images.specs.Counts.{times_in};
-ghost use Rattle.law_images.specs.Seen.{IsSeenIn, that_show};
+ghost use Rattle.law_images.specs.Seen.{IsSeenIn, over_black, that_show};
 ghost use Rattle.law_images.specs.Pixels.{IsPixel, transparent};
+ghost use Rattle.law_images.specs.Trees.{LayerOfTree, above_passes};
 
 /// Each image is opaque: whatever the layers are, the alpha of each pixel is 255. So who shows a
 /// frame, or keeps a capture, may leave alpha out.
@@ -31,7 +32,7 @@ pub fn what_is_transparent_changes_nothing()
     ensures alpha { (under source : Rgba) → IsPixel under → painted under source 0 ≡ under }
     ensures clear { (under : Rgba) (alpha : ℕ) → IsPixel under → painted under transparent alpha ≡ under }
     ensures layers { (pictures : ℕ → Picture) (tree : List Layer) (x y : ℤ) (layers : List Layer)
-        → under_layers pictures tree x y opaque_black (that_show tree layers) ≡ under_layers pictures tree x y opaque_black layers }
+        → over_black pictures tree x y (that_show tree layers) ≡ over_black pictures tree x y layers }
 {}
 
 /// Where a hit test finds no layer, the image is black there; and where it finds one, the pixel is that
@@ -54,16 +55,13 @@ pub fn mirrors_add_copies()
 /// In a tree each layer shows by what its parent and the layer that it is relative to do, and hangs
 /// below all that its parent hangs below: the number of steps that the definitions allow is enough.
 pub fn steps_of_a_tree_suffice()
-    ensures shows { (most : ℕ) (tree : List Layer) (place : ℕ) (layer : Layer) → IsTree most tree → slice_get tree place ≡ Some layer
-        → shows tree layer ≡ (not layer.hidden && (parent_passes tree (shows tree) layer.parent && relative_passes tree (shows tree) layer.relative)) }
-    ensures above { (most : ℕ) (tree : List Layer) (place : ℕ) (layer : Layer) → IsTree most tree → slice_get tree place ≡ Some layer
-        → ancestry tree layer ≡ layer ∷ and_above (ancestry tree) (parent_layer tree layer.parent) }
+    ensures shows { (of : LayerOfTree) → shows of.tree of.layer ≡ (not of.layer.hidden && above_passes of) }
+    ensures above { (of : LayerOfTree) → ancestry of.tree of.layer ≡ of.layer ∷ and_above (ancestry of.tree) (parent_layer of.tree of.layer.parent) }
 {}
 
 /// The draw order of a tree has each layer that shows once, and no other layer of it.
 pub fn each_layer_that_shows_is_drawn_once()
-    ensures { (most : ℕ) (tree : List Layer) (place : ℕ) (layer : Layer) → IsTree most tree → slice_get tree place ≡ Some layer
-        → times_in (draw_order tree) layer.number ≡ (if shows tree layer then 1 else 0) }
+    ensures { (of : LayerOfTree) → times_in (draw_order of.tree) of.layer.number ≡ (if shows of.tree of.layer then 1 else 0) }
 {}
 
 /// A layer that was cut out of a tree with all below it is cut out of that as it is: a capture shows

@@ -49,7 +49,7 @@ use Rattle.law_joins.proofs.Sights.{says_seen}
 use Rattle.law_joins.proofs.Takes.{log_takes, takes_rise, vsync_takes}
 use Rattle.law_threads.specs.sf_live_compositor.Vsyncs.{Begin, IsVsync, More, Sitting, Vsyncs}
 
-no_commits : (commits : List Commit) → has_commits commits ≡ false → commits ≡ []
+pub no_commits : (commits : List Commit) → has_commits commits ≡ false → commits ≡ []
 no_commits [] none = refl
 no_commits (commit ∷ commits) none = absurd (cc)
 

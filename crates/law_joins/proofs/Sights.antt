@@ -47,14 +47,14 @@ points_has (v ∷ vs) first (suc k) low =
     same : (first + 1) + k ≡ first + suc k
     same = omega arith
 
-point_has : (seen : Seen) (t : ℕ) → length seen.values ≡ 64 → 1 ≤ t → t ≤ 64 → Contains (points_from 1 seen.values) (t, value_of seen.values t)
+pub point_has : (seen : Seen) (t : ℕ) → length seen.values ≡ 64 → 1 ≤ t → t ≤ 64 → Contains (points_from 1 seen.values) (t, value_of seen.values t)
 point_has seen t all low high =
     subst (λ (n : ℕ). Contains (points_from 1 seen.values) (n, value_of seen.values t)) same (points_has seen.values 1 (t - 1) (omega (arith, all, low, high)))
   where
     same : 1 + (t - 1) ≡ t
     same = omega (arith, low)
 
-commits_shown : (commits : List Commit) → has_commits commits ≡ true → map commit_shown commits ≢ []
+pub commits_shown : (commits : List Commit) → has_commits commits ≡ true → map commit_shown commits ≢ []
 commits_shown [] some none = absurd (false≢true some)
 commits_shown (commit ∷ commits) some none = cc
 

@@ -4,4 +4,5 @@ pub mod Frames
 pub mod Fronts
 pub mod Joined
 pub mod Logs
+pub mod PlayedLogs
 pub use Rattle.law_threads.specs as law_threads

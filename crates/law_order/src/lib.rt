@@ -2,20 +2,16 @@
 //! refuses: calls in a circle, and a release before what was called to get its frame.
 #![tactic(auto)]
 
-ghost use Rattle.std.specs.Prelude.{◌≡◌, ◌≢◌, ◌<◌, ◌≤◌, Bool, Contains};
-ghost use Rattle.sf_record.specs.declared.event.VsyncRecords.{VsyncRecords};
-ghost use Rattle.sf_record.specs.declared.record.CommitRecord.{CommitRecord};
+ghost use Rattle.std.specs.Prelude.{Bool};
 ghost use Rattle.law_order.specs.Crossings.{crossed, released_first};
-ghost use Rattle.law_order.specs.Order.{ArrivalAt, CallAt, Happened, InOneOrder, IsArrival, IsCall, IsLaterStep, IsLaterThere};
+ghost use Rattle.law_order.specs.Order.{Happened, InOneOrder};
+ghost use Rattle.law_order.specs.Refused.{HasCircle, HasEarlyRelease};
 
 /// The calls of two actors stand in no circle: where an actor calls on a first queue and in a later
 /// step on a second one, and another on the second and in a later step on the first, then not both
 /// later calls stand before the other's first one. So no order explains the example.
 pub fn calls_stand_in_no_circle()
-    ensures circle { (tells : Bool) (all : Happened) (first second other_first other_second : CallAt)
-        → IsCall all first → IsCall all second → IsCall all other_first → IsCall all other_second
-        → IsLaterStep first second → IsLaterStep other_first other_second
-        → IsLaterThere other_second first → IsLaterThere second other_first → InOneOrder tells all → ⊥ }
+    ensures circle { (tells : Bool) (all : Happened) → HasCircle all → InOneOrder tells all → ⊥ }
     ensures example { (tells : Bool) → InOneOrder tells crossed → ⊥ }
 {}
 
@@ -23,9 +19,6 @@ pub fn calls_stand_in_no_circle()
 /// one before it committed: so behind the calls that queued the frame and acquired it, and no order
 /// explains the example.
 pub fn releases_follow_calls()
-    ensures release { (tells : Bool) (all : Happened) (call release : CallAt) (sent : ArrivalAt) (at : VsyncRecords) (commit : CommitRecord)
-        → IsCall all call → IsCall all release → IsArrival all sent → Contains all.vsyncs at → Contains at.commits commit
-        → call.entry.caller ≡ sent.entry.actor → call.entry.step < sent.entry.step → commit.arrival ≡ sent.number
-        → release.entry.caller ≡ 0 → at.number ≤ release.entry.step → IsLaterThere release call → InOneOrder tells all → ⊥ }
+    ensures release { (tells : Bool) (all : Happened) → HasEarlyRelease all → InOneOrder tells all → ⊥ }
     ensures example { (tells : Bool) → InOneOrder tells released_first → ⊥ }
 {}

@@ -7,7 +7,7 @@ use Rattle.sf_record.specs.Events.{events_records}
 use Rattle.sf_record.specs.declared.event.Event.{Event}
 use Rattle.sf_record.specs.declared.record.Record.{Record}
 use Rattle.law_played.specs.Arrivals.{entry_of}
-use Rattle.law_played.specs.Commits.{is_written}
+use Rattle.law_played.specs.Commits.{IsPrefix, is_written}
 use Rattle.law_played.specs.Histories.{history_shown, rising_queues}
 use Rattle.law_played.specs.Played.{Shows, opening, records_of}
 use Rattle.law_played.specs.Plays.{Comes, IsOver, IsPlay, Playing}
@@ -46,3 +46,13 @@ pub record Ends (scene : SceneValue) (playing : Playing) : Type 0 where
   pub end : Playing
   pub comes : Comes scene playing end
   pub over : IsOver scene end
+
+-- records begin with those of what a play showed so far
+abbrev pub BeginWith : SceneValue → Playing → List Record → Type 0
+BeginWith scene playing records = IsPrefix (records_so_far scene playing.events) records
+
+-- a scene has records that begin with those of what a play showed so far
+pub record HasRecords (scene : SceneValue) (playing : Playing) : Type 0 where
+  pub records : List Record
+  pub are : ArePlayRecords scene records
+  pub begin_so : BeginWith scene playing records

@@ -11,6 +11,10 @@ pub mod Framing
 pub mod Histories
 pub mod Holds
 pub mod Least
+pub mod NextVsyncs
+pub mod SceneActors
+pub mod ShownRuns
+pub mod Transitions
 pub mod Played
 pub mod Plays
 pub mod Progress

@@ -1,13 +1,10 @@
 //! Laws about what a played run means, and runs for which it is computed.
-ghost use Rattle.std.specs.Prelude.{◌≡◌, ℕ, Bool, List, [], ◌∷◌, map};
+ghost use Rattle.std.specs.Prelude.{◌≡◌, List, [], ◌∷◌, map};
 ghost use Rattle.std.specs.List.{flat_map};
 ghost use Rattle.sf_record.specs.declared.event.Event.{Event as EventValue};
 ghost use Rattle.sf_record.specs.declared.record.CommitRecord.{CommitRecord};
 ghost use Rattle.sf_script_scene.specs.Limits.{IsWithinLimits};
 ghost use Rattle.sf_script_scene.specs.Scene.{SceneValue};
-ghost use Rattle.sf_commit.specs.sf_token.Pending.{Arrival};
-ghost use Rattle.sf_actor.specs.Makers.{Run};
-ghost use Rattle.sf_actor.specs.Names.{FrameOf};
 ghost use Rattle.sf_actor.specs.sf_slots.Tells.{AreReplies};
 ghost use Rattle.sf_compose.specs.sf_tree.Trees.{TreeOf};
 ghost use Rattle.sf_actor.specs.Written.{written_in};
@@ -17,16 +14,15 @@ ghost use Rattle.law_played.specs.Frames.{HasOneOutput, frame_after, shown_after
 ghost use Rattle.law_played.specs.Histories.{history_shown, released_in};
 ghost use Rattle.law_played.specs.Holds.{AreHeld, uncommitted};
 ghost use Rattle.law_played.specs.Least.{least_records, least_scene};
-ghost use Rattle.law_played.specs.Played.{FitsWhere, Played, Shows};
-ghost use Rattle.law_played.specs.Replies.{replies_due, replies_to};
-ghost use Rattle.law_played.specs.Vsyncs.{commits_in, vsyncs_in};
+ghost use Rattle.law_played.specs.Played.{Played};
+ghost use Rattle.law_played.specs.Replies.{replies_due};
+ghost use Rattle.law_played.specs.Vsyncs.{commits_in};
+ghost use Rattle.law_played.specs.ShownRuns.{AreAlike, IsFit, ShownRun, with_events};
 
 /// What a run means leaves free in which order replies to different actors and vsyncs stand: where
 /// each actor's replies and the vsyncs are the same, the same runs fit.
 pub fn the_order_of_replies_is_free()
-    ensures { (tells : Bool) (scene : SceneValue) (shows : Shows) (run : Run) (arrivals : List (Arrival FrameOf)) (events : List EventValue)
-        → vsyncs_in events ≡ vsyncs_in shows.events → ((actor : ℕ) → replies_to actor events ≡ replies_to actor shows.events)
-        → FitsWhere tells scene shows run arrivals → FitsWhere tells scene (record shows { events = events }) run arrivals }
+    ensures { (shown : ShownRun) (events : List EventValue) → AreAlike events shown.shows.events → IsFit shown → IsFit (with_events shown events) }
 {}
 
 /// A vsync of a scene without further displays, captures, hit tests, stacks and mirrors shows one

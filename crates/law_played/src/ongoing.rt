@@ -4,7 +4,7 @@ ghost use Rattle.sf_script_scene.specs.Limits.{IsWithinLimits};
 ghost use Rattle.sf_script_scene.specs.Scene.{SceneValue};
 ghost use Rattle.sf_record.specs.declared.record.Record.{Record as RecordValue};
 ghost use Rattle.law_played.specs.Commits.{IsPrefix};
-ghost use Rattle.law_played.specs.Ends.{ArePlayRecords, Ends, records_so_far};
+ghost use Rattle.law_played.specs.Ends.{ArePlayRecords, BeginWith, Ends, HasRecords, records_so_far};
 ghost use Rattle.law_played.specs.Plays.{Comes, GoesOnTo, IsBegun, IsOver, Playing};
 
 /// A play of a scene that is not over goes on: each transition can be taken.
@@ -20,8 +20,7 @@ pub fn a_play_ends()
 /// A play that has begun has records, which begin with those of what it showed so far; and what a play
 /// showed stands in front of what it shows later.
 pub fn a_play_has_records()
-    ensures has { (scene : SceneValue) (playing : Playing) → IsWithinLimits scene → IsBegun scene playing
-        → (records : List RecordValue) × ArePlayRecords scene records × IsPrefix (records_so_far scene playing.events) records }
+    ensures has { (scene : SceneValue) (playing : Playing) → IsWithinLimits scene → IsBegun scene playing → HasRecords scene playing }
     ensures go_on { (scene : SceneValue) (playing next : Playing) → Comes scene playing next
         → IsPrefix (records_so_far scene playing.events) (records_so_far scene next.events) }
 {}
@@ -35,5 +34,5 @@ pub fn a_scene_has_a_play()
 pub fn play_records_are_one()
     ensures one { (scene : SceneValue) (records others : List RecordValue) → ArePlayRecords scene records → ArePlayRecords scene others → records ≡ others }
     ensures begin { (scene : SceneValue) (playing : Playing) (records : List RecordValue) → IsBegun scene playing → ArePlayRecords scene records
-        → IsPrefix (records_so_far scene playing.events) records }
+        → BeginWith scene playing records }
 {}

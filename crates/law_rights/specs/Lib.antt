@@ -1,5 +1,7 @@
 pub mod Actors
+pub mod CallChanges
 pub mod Calls
+pub mod DrawChanges
 pub mod InTurn
 pub mod Ledgers
 pub mod Loads
@@ -13,6 +15,8 @@ pub mod Owed
 pub mod PlaceTries
 pub mod Places
 pub mod Queuing
+pub mod RunChanges
+pub mod RunNow
 pub mod Slots
 pub mod Stays
 pub mod Standing

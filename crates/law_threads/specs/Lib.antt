@@ -1,3 +1,4 @@
+pub mod Callers
 pub mod Cuts
 pub mod Delays
 pub mod Joining
@@ -7,6 +8,7 @@ pub mod Orders
 pub mod Rights
 pub mod Sends
 pub mod Stamped
+pub mod TiedJoins
 pub mod Tries
 pub use Rattle.law_draws.specs as law_draws
 pub use Rattle.law_draws.specs.law_played

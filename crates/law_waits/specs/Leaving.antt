@@ -1,5 +1,5 @@
 -- Nobody is passed over: what a vsync commits leaves nothing behind it that could commit.
-use Rattle.std.specs.Prelude.{◌≢◌, ℕ, ◌&&◌, nat_lt, max, Bool, false, List, [], ◌∷◌, ◌++◌, All, filter, None}
+use Rattle.std.specs.Prelude.{◌≡◌, ◌≢◌, ℕ, ◌&&◌, nat_lt, max, Bool, false, List, [], ◌∷◌, ◌++◌, All, Contains, filter, None}
 use Rattle.law_played.specs.sf_commit.Rounds.{facts_of}
 use Rattle.law_played.specs.sf_commit_next.Heads.{head_hold}
 use Rattle.law_played.specs.sf_token.Pending.{Arrival}
@@ -44,3 +44,9 @@ LeavesNoneFrom arrivals before (told ∷ later) = LeavesNoneAt arrivals (before 
 -- another one of its token, has a buffer, or waits for its time or a barrier.
 abbrev pub LeavesNone : List (Arrival FrameOf) → List VsyncAt → Type 0
 LeavesNone arrivals told = LeavesNoneFrom arrivals [] told
+
+-- A vsync leaves an arrival behind that nothing holds, whatever writes it saw as ended.
+pub record LeavesReady (arrivals : List (Arrival FrameOf)) (commits : List CommitRecord) (told : VsyncAt) : Type 0 where
+  pub arrived : Arrival FrameOf
+  pub left : Contains (left_behind arrivals commits) arrived
+  pub ready : head_hold none_ended (seen_by told.vsync) told.vsync.expected (facts_of told.round) arrived ≡ None

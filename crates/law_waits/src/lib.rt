@@ -2,14 +2,11 @@
 //! stands in specs/; here are laws of what it refuses and of what it accepts.
 #![tactic(auto)]
 
-ghost use Rattle.std.specs.Prelude.{◌≡◌, List, Contains, None};
-ghost use Rattle.law_played.specs.sf_commit.Rounds.{facts_of};
-ghost use Rattle.law_played.specs.sf_commit_next.Heads.{head_hold};
+ghost use Rattle.std.specs.Prelude.{List};
 ghost use Rattle.law_played.specs.sf_token.Pending.{Arrival};
 ghost use Rattle.law_played.specs.sf_actor.Names.{FrameOf};
-ghost use Rattle.law_played.specs.Commits.{seen_by};
 ghost use Rattle.law_played.specs.Stages.{VsyncAt};
-ghost use Rattle.law_waits.specs.Leaving.{LeavesNone, LeavesNoneAt, left_behind, none_ended};
+ghost use Rattle.law_waits.specs.Leaving.{LeavesNone, LeavesNoneAt, LeavesReady};
 ghost use Rattle.law_waits.specs.PassedOver.{both_arrived, none_left, passed_over};
 ghost use Rattle.law_played.specs.sf_record.declared.record.CommitRecord.{CommitRecord};
 
@@ -17,10 +14,8 @@ ghost use Rattle.law_played.specs.sf_record.declared.record.CommitRecord.{Commit
 /// later arrival does not commit before an earlier one of another token that could commit, as in the
 /// example.
 pub fn nobody_is_passed_over()
-    ensures none { (arrivals : List (Arrival FrameOf)) (commits : List CommitRecord) (told : VsyncAt) (arrived : Arrival FrameOf)
-        → Contains (left_behind arrivals commits) arrived
-        → head_hold none_ended (seen_by told.vsync) told.vsync.expected (facts_of told.round) arrived ≡ None
-        → LeavesNoneAt arrivals commits told → ⊥ }
+    ensures none { (arrivals : List (Arrival FrameOf)) (commits : List CommitRecord) (told : VsyncAt)
+        → LeavesReady arrivals commits told → LeavesNoneAt arrivals commits told → ⊥ }
     ensures example { LeavesNone both_arrived passed_over → ⊥ }
 {}
 

@@ -1,5 +1,5 @@
 -- What is there to be shown: the layers, and the buffers on them with their pictures.
-use Rattle.std.specs.Prelude.{◌≡◌, ℕ, ◌<◌, ◌≤◌, Bool, ◌==◌, List, get_or, length}
+use Rattle.std.specs.Prelude.{◌≡◌, ℕ, ◌<◌, ◌≤◌, Bool, ◌==◌, List, get_or, length, map}
 use Rattle.std.specs.List.{All, AllZip, list_any}
 use Rattle.law_played.specs.sf_commit.Handlers.{HandlerOf}
 use Rattle.law_played.specs.sf_commit.OnLayers.{OnLayer}
@@ -77,3 +77,7 @@ FindsPictures pictures contents sourced = HasSources pictures sourced.view conte
 pub record AreSourced (plan : Plan) (tree : TreeOf) (contents : List Picture) (views : List (Output SourcedView)) : Type 0 where
   pub due : AllZip (IsOutput (λ (due : ImageDue) (sourced : SourcedView). ShowsDue due sourced.view)) (outputs_due plan tree.layers) views
   pub readable : All (OfImage (IsReadableView contents)) views
+
+-- each layer of each of these views finds its picture among those of the buffers on layers
+abbrev pub AllFindPictures : {L : Type 0} → (OnLayer L → Picture) → (ℕ → Picture) → HandlerOf L → List (Output SourcedView) → Type 0
+AllFindPictures expects pictures handler views = All (OfImage (FindsPictures pictures (map expects handler.on))) views

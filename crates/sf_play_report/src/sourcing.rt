@@ -8,7 +8,7 @@ ghost use Rattle.law_played.specs.sf_output_plan.Due.{IsFrameDue, frame_due};
 ghost use Rattle.law_played.specs.sf_output_shown.Copies.{written};
 ghost use Rattle.law_played.specs.sf_picture.declared.picture.Picture.{Picture};
 ghost use Rattle.law_played.specs.sf_view.Views.{IsDisplay, Views};
-ghost use Rattle.sf_play_report.specs.Stages.{AllShowOn, AreExpected, AreSourced, AreSourcesOf, FindsPictures, IsSourceOf, IsSourcedBy, IsSourcedDue, IsStage, ShowsOn};
+ghost use Rattle.sf_play_report.specs.Stages.{AllFindPictures, AllShowOn, AreExpected, AreSourced, AreSourcesOf, IsSourceOf, IsSourcedBy, IsSourcedDue, IsStage, ShowsOn};
 ghost use Rattle.law_played.specs.sf_view.declared.drawn.Drawn.{Drawn as DrawnOf};
 
 use crate::sourced::SourcedView;
@@ -152,7 +152,7 @@ where
     requires { IsStage (λ one. L.picture one.lease) plan.now handler.now }
     ensures views { IfOk result (λ views. AreSourced plan.now handler.now.tree (map (λ one. L.picture one.lease) handler.now.on) views.items) }
     ensures found { (pictures : ℕ → Picture) → AreExpected (λ one. L.picture one.lease) pictures handler.now
-        → IfOk result (λ views. All (OfImage (FindsPictures pictures (map (λ one. L.picture one.lease) handler.now.on))) views.items) }
+        → IfOk result (λ views. AllFindPictures (λ one. L.picture one.lease) pictures handler.now views.items) }
 {
     let tree = handler.tree();
     tree.layers();

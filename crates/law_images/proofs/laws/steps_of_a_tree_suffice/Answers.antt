@@ -4,7 +4,7 @@ use Rattle.sf_view.proofs.AncestryLemmas.{ancestry-is}
 use Rattle.law_images.proofs.laws.steps_of_a_tree_suffice.Goals as goal
 
 pub returns-clause-shows : goal.returns-clause-shows
-returns-clause-shows c = λ most tree place layer t at. shows-is tree layer (length tree) (Outranks-tree tree place layer t.distinct t.tied t.no_cycle at)
+returns-clause-shows c = λ of. shows-is of.tree of.layer (length of.tree) (Outranks-tree of.tree of.place of.layer of.is.distinct of.is.tied of.is.no_cycle of.here)
 
 pub returns-clause-above : goal.returns-clause-above
-returns-clause-above c = λ most tree place layer t at. ancestry-is tree layer (length tree) (Outranks-tree tree place layer t.distinct t.tied t.no_cycle at)
+returns-clause-above c = λ of. ancestry-is of.tree of.layer (length of.tree) (Outranks-tree of.tree of.place of.layer of.is.distinct of.is.tied of.is.no_cycle of.here)

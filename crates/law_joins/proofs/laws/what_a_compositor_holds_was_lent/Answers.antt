@@ -3,5 +3,5 @@ use Rattle.law_joins.proofs.Lends.{log_lent}
 use Rattle.law_joins.proofs.laws.what_a_compositor_holds_was_lent.Goals as goal
 
 pub returns : goal.returns
-returns g c = λ table locks period joined start last log begun.
-    log_lent _ (record { plain = λ a b e. e; picture = λ a b e. e; number = λ a b e. ap (λ (p : ℕ × ℕ). p.1) e }) table locks period joined start last log begun.pending begun.on
+returns g c = λ vsyncs joined begun lent.
+    log_lent _ (record { plain = λ a b e. e; picture = λ a b e. e; number = λ a b e. ap (λ (p : ℕ × ℕ). p.1) e }) vsyncs.table vsyncs.locks vsyncs.period joined vsyncs.start vsyncs.last vsyncs.log begun.pending begun.on lent

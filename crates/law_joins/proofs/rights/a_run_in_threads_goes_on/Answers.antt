@@ -8,11 +8,11 @@ abbrev at : PlainLease → BufferOf
 at plain = record { queue = plain.queue.0; number = plain.held.number }
 
 pub returns-clause-in_run : goal.returns-clause-in_run
-returns-clause-in_run g c = λ scene period most locks last ends desk is few.
-    tied_in_run _ scene g.B.TableName.table period most locks last ends desk is (record { plain = λ a b e. e; picture = λ a b e. e; number = λ a b e. ap (λ (p : ℕ × ℕ). p.1) e }) (λ eye l knows. knows)
+returns-clause-in_run g c = λ join few.
+    tied_in_run _ join.scene g.B.TableName.table join.period join.most join.locks join.last join.ends join.desk join.is (record { plain = λ a b e. e; picture = λ a b e. e; number = λ a b e. ap (λ (p : ℕ × ℕ). p.1) e }) (λ eye l knows. knows)
     (record { end = λ l. refl; next_end = λ l. refl; ends = λ eye. refl }) (λ one other same. ap at same) few
 
 pub returns-clause-standing : goal.returns-clause-standing
-returns-clause-standing g c = λ scene period most locks last ends desk is few.
-    tied_standing _ scene g.B.TableName.table period most locks last ends desk is (record { plain = λ a b e. e; picture = λ a b e. e; number = λ a b e. ap (λ (p : ℕ × ℕ). p.1) e }) (λ eye l knows. knows)
+returns-clause-standing g c = λ join few.
+    tied_standing _ join.scene g.B.TableName.table join.period join.most join.locks join.last join.ends join.desk join.is (record { plain = λ a b e. e; picture = λ a b e. e; number = λ a b e. ap (λ (p : ℕ × ℕ). p.1) e }) (λ eye l knows. knows)
     (record { end = λ l. refl; next_end = λ l. refl; ends = λ eye. refl }) (λ one other same. ap at same) few

@@ -11,4 +11,4 @@ pub returns-clause-tells : goal.returns-clause-tells
 returns-clause-tells g c = λ one other same. ap at same
 
 pub returns-clause-returns : goal.returns-clause-returns
-returns-clause-returns g c = λ buffers home ofs old new handler after vsync stands. vsync_returns _ buffers home ofs old new handler after vsync stands (λ one other same. ap at same)
+returns-clause-returns g c = λ one. vsync_returns _ one.buffers one.before.home one.before.ofs one.before.view one.view one.before.handler one.handler one.vsync one.stands (λ a b same. ap at same)

@@ -2,4 +2,4 @@ use Rattle.law_rights.proofs.MakersComing.{attach_keeps}
 use Rattle.law_rights.proofs.makers.an_attach_keeps_makers.Goals as goal
 
 pub returns : goal.returns
-returns c before after most more stays old new on grows are known buffer stay step = (_, attach_keeps before after most more stays old new on grows are known buffer stay step)
+returns c = λ on buffer stay step. (_, attach_keeps on.so.run on.after on.so.most on.more on.so.stays on.so.places on.new on.goes_on on.rises on.so.are on.known buffer stay step)

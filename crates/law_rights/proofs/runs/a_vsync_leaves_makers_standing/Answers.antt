@@ -8,5 +8,6 @@ abbrev at : PlainLease → BufferOf
 at plain = record { queue = plain.queue.0; number = plain.held.number }
 
 pub returns : goal.returns
-returns g c scene home ofs old handler buffers new after vsync stands declared makers =
-    vsync_makers scene home ofs old handler _ buffers new after vsync stands (λ one other same. ap at same) declared makers
+returns g c = λ vsync.
+    let one = vsync.one in
+    vsync_makers vsync.scene one.before.home one.before.ofs one.before.view one.before.handler _ one.buffers one.view one.handler one.vsync one.stands (λ a b same. ap at same) vsync.declared vsync.makers

@@ -14,7 +14,18 @@ abbrev at : PlainLease → BufferOf
 at plain = record { queue = plain.queue.0; number = plain.held.number }
 
 pub returns : goal.returns
-returns b c scene table period most locks last ends desk joins tied =
+returns b c = λ of.
+    let join = of.join in
+    let scene = join.scene in
+    let table = join.table in
+    let period = join.period in
+    let most = join.most in
+    let locks = join.locks in
+    let last = join.last in
+    let ends = join.ends in
+    let desk = join.desk in
+    let joins = join.joins in
+    let tied = of.tied in
     let own = own_apart _ scene table period most locks last ends desk joins HasLedger tied in
     let lifted = ledger_lifted table locks joins.first desk joins.closes joins.ordered joins.is_first.own own tied.legal (picture_at scene.pictures) in
     tied_stands _ scene table period most locks last ends desk joins HasLedger tied

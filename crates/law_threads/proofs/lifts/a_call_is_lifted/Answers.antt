@@ -4,5 +4,7 @@ use Rattle.law_threads.proofs.CallLift.{lifts_call}
 use Rattle.law_threads.proofs.lifts.a_call_is_lifted.Goals as goal
 
 pub returns : goal.returns
-returns g c whole pictures home marks apart absent was is s before after old new status values tries on begins =
-    lifts_call whole pictures home marks apart absent was is s before after old new status values tries HasLedger (ledger_goes whole was is s before) on begins
+returns g c = λ call on.
+    let run = call.run in
+    lifts_call run.whole run.pictures run.home run.marks run.apart run.absent call.was call.is call.s call.before call.after call.old call.new call.status call.values call.tries HasLedger
+    (ledger_goes run.whole call.was call.is call.s call.before) on call.begins

@@ -4,5 +4,7 @@ use Rattle.law_threads.proofs.TryOutcomes.{comes}
 use Rattle.law_threads.proofs.lifts.a_done_try_is_lifted.Goals as goal
 
 pub returns : goal.returns
-returns g c whole pictures home marks apart absent legal was is s before after old new came_to tries begins =
-    comes whole pictures home marks apart absent legal was is before after old new begins HasLedger (λ next to does. ledger_goes whole was is next before) (ledger_gives whole) s came_to tries
+returns g c = λ done legal.
+    let run = done.run in
+    comes run.whole run.pictures run.home run.marks run.apart run.absent legal done.was done.is done.before done.after done.old done.new done.begins HasLedger
+    (λ next to does. ledger_goes run.whole done.was done.is next done.before) (ledger_gives run.whole) done.s done.came_to done.tries

@@ -10,12 +10,17 @@ abbrev at : PlainLease → BufferOf
 at plain = record { queue = plain.queue.0; number = plain.held.number }
 
 pub returns-clause-ledger : goal.returns-clause-ledger
-returns-clause-ledger g c scene table period most locks last ends desk joins tied = ledger_join _ scene table period most locks last ends desk joins (record { end = λ l. refl; next_end = λ l. refl; ends = λ eye. refl }) (λ one other same. ap at same) tied
+returns-clause-ledger g c = λ of.
+    let join = of.join in
+    ledger_join _ join.scene join.table join.period join.most join.locks join.last join.ends join.desk join.joins (record { end = λ l. refl; next_end = λ l. refl; ends = λ eye. refl }) (λ one other same. ap at same) of.tied
 
 pub returns-clause-makers : goal.returns-clause-makers
-returns-clause-makers g c scene table period most locks last ends desk joins tied = (rights_join _ scene table period most locks last ends desk joins (record { end = λ l. refl; next_end = λ l. refl; ends = λ eye. refl }) (λ one other same. ap at same) tied).makers
+returns-clause-makers g c = λ of.
+    let join = of.join in
+    (rights_join _ join.scene join.table join.period join.most join.locks join.last join.ends join.desk join.joins (record { end = λ l. refl; next_end = λ l. refl; ends = λ eye. refl }) (λ one other same. ap at same) of.tied).makers
 
 pub returns-clause-draws : goal.returns-clause-draws
-returns-clause-draws g c scene table period most locks last ends desk joins tied actors over exact =
-    draws_stand scene _ _ _ joins.limits actors (picture_at scene.pictures) table.slots last.handler (ledger_join _ scene table period most locks last ends desk joins (record { end = λ l. refl; next_end = λ l. refl; ends = λ eye. refl }) (λ one other same. ap at same) tied) over exact
-    (rights_join _ scene table period most locks last ends desk joins (record { end = λ l. refl; next_end = λ l. refl; ends = λ eye. refl }) (λ one other same. ap at same) tied).placed
+returns-clause-draws g c = λ of keep.
+    let join = of.join in
+    draws_stand join.scene _ _ _ join.joins.limits keep.actors (picture_at join.scene.pictures) join.table.slots join.last.handler (ledger_join _ join.scene join.table join.period join.most join.locks join.last join.ends join.desk join.joins (record { end = λ l. refl; next_end = λ l. refl; ends = λ eye. refl }) (λ one other same. ap at same) of.tied) keep.over keep.exact
+    (rights_join _ join.scene join.table join.period join.most join.locks join.last join.ends join.desk join.joins (record { end = λ l. refl; next_end = λ l. refl; ends = λ eye. refl }) (λ one other same. ap at same) of.tied).placed
