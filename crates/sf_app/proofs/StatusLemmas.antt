@@ -7,7 +7,8 @@ use Rattle.std.proofs.KnownBytes.{Appends-nil}
 use Rattle.std.specs.Io.KnownBytes.{Appends, Consumes, IsAtEnd}
 use Rattle.sf_io.specs.Causes.{Rose}
 use Rattle.sf_io.specs.Streams.{Took, TookPrefix}
-use Rattle.sf_live.specs.Runs.{WroteLive}
+use Rattle.sf_live.specs.Runs.{CutLive, in_rest, in_vsyncs}
+use Rattle.sf_live.proofs.CutRuns.{cut_all, cut_nothing as none_cut_live}
 use Rattle.sf_app_options.specs.declared.options.Options.{Options}
 use Rattle.sf_app_options.specs.declared.options.Run.{Run}
 use Rattle.sf_app_options.specs.declared.options.Run.TheVariants as run
@@ -36,12 +37,8 @@ nothing_took a bs = (0, omega arith, Appends-nil a)
 part_whole : (summary : Bool) (scene : SceneValue) (a b : Option (List ℕ)) → ShowsPlay summary scene a b → ShowsPart summary scene a b
 part_whole summary scene a b h = record { records = h.records; is_play = h.is_play; written = all_as_part a b (records_shown summary h.records) h.written }
 
--- the records of a run in threads are whole records
-live_whole : (tells : Bool) (scene : SceneValue) (a b : Option (List ℕ)) → WroteLive tells scene a b → CutSome a b
-live_whole tells scene a b h = cut_part a b h.records (all_as_part a b h.records h.written)
-
-pub run_part_whole : (r : Run) (summary tells : Bool) (scene : SceneValue) (a b : Option (List ℕ)) → ShowsRun r summary tells scene a b → ShowsRunPart r summary scene a b
-run_part_whole run.Live summary tells scene a b h = live_whole tells scene a b h
+pub run_part_whole : (r : Run) (summary tells : Bool) (scene : SceneValue) (a b : Option (List ℕ)) → ShowsRun r summary tells scene a b → ShowsRunPart r summary tells scene a b
+run_part_whole run.Live summary tells scene a b h = cut_all tells scene a b h
 run_part_whole run.Play summary tells scene a b h = part_whole summary scene a b h
 run_part_whole run.Gen summary tells scene a b h = part_whole summary scene a b h
 
@@ -61,11 +58,16 @@ fault_part r fault a b part begun nothing = some_cut r a b (rec.Sflt fault ∷ [
 play_cut : (summary : Bool) (scene : SceneValue) (a b : Option (List ℕ)) → ShowsPart summary scene a b → CutSome a b
 play_cut summary scene a b h = cut_part a b (records_shown summary h.records) h.written
 
+-- a prefix of the records of a run in threads
+live_cut : (tells : Bool) (scene : SceneValue) (a b : Option (List ℕ)) → CutLive tells scene a b → CutSome a b
+live_cut tells scene a b (in_vsyncs vsyncs begins part) = cut_part a b _ part
+live_cut tells scene a b (in_rest shows fits part) = cut_part a b _ part
+
 -- of what shows a run
-pub run_cut : (r : Run) (summary : Bool) (scene : SceneValue) (a b : Option (List ℕ)) → ShowsRunPart r summary scene a b → CutSome a b
-run_cut run.Live summary scene a b h = h
-run_cut run.Play summary scene a b h = play_cut summary scene a b h
-run_cut run.Gen summary scene a b h = play_cut summary scene a b h
+pub run_cut : (r : Run) (summary tells : Bool) (scene : SceneValue) (a b : Option (List ℕ)) → ShowsRunPart r summary tells scene a b → CutSome a b
+run_cut run.Live summary tells scene a b h = live_cut tells scene a b h
+run_cut run.Play summary tells scene a b h = play_cut summary scene a b h
+run_cut run.Gen summary tells scene a b h = play_cut summary scene a b h
 
 cut_none : (scene : SceneValue) (a : Option (List ℕ)) → IsPeriod scene.period → CutRun scene a a
 cut_none scene a period = let play = timed_records scene period.low period.high in record { records = play.0; is_play = play.1; written = none_of a play.0 }
@@ -74,10 +76,10 @@ part_none : (summary : Bool) (scene : SceneValue) (a : Option (List ℕ)) → Is
 part_none summary scene a period =
     let play = timed_records scene period.low period.high in record { records = play.0; is_play = play.1; written = none_of a (records_shown summary play.0) }
 
-run_part_none : (r : Run) (summary : Bool) (scene : SceneValue) (a : Option (List ℕ)) → IsPeriod scene.period → ShowsRunPart r summary scene a a
-run_part_none run.Live summary scene a period = cut_nothing a
-run_part_none run.Play summary scene a period = part_none summary scene a period
-run_part_none run.Gen summary scene a period = part_none summary scene a period
+run_part_none : (r : Run) (summary tells : Bool) (scene : SceneValue) (a : Option (List ℕ)) → IsPeriod scene.period → ShowsRunPart r summary tells scene a a
+run_part_none run.Live summary tells scene a period = none_cut_live tells scene a a refl
+run_part_none run.Play summary tells scene a period = part_none summary scene a period
+run_part_none run.Gen summary tells scene a period = part_none summary scene a period
 
 pub cut_unbegun : (scene : SceneValue) (a : Option (List ℕ)) → IsWithinLimits scene → CutRun scene a a
 cut_unbegun scene a limits = cut_none scene a (record { low = limits.header.low_period; high = limits.header.high_period })
@@ -173,7 +175,7 @@ no_play asked options left rest a b bytes fault right told wrong p =
     cc
 
 none_by : (options : Options) (bytes : List ℕ) (p : Result SceneValue ScriptFault) (a : Option (List ℕ)) → parsed_of bytes ≡ p → PrefixOf options p a a
-none_by options bytes (Ok scene) a is = run_part_none options.run options.summary scene a (parsed_timed bytes scene is)
+none_by options bytes (Ok scene) a is = run_part_none options.run options.summary (tells_place options) scene a (parsed_timed bytes scene is)
 none_by options bytes (Err fault) a is = nothing_took a (fault_bytes fault)
 
 -- nothing was written
@@ -220,7 +222,7 @@ scene_shown options scene a b f g h =
       begun = λ e. omega (arith, e);
       read = λ e. omega (arith, e);
       prefix = part;
-      cut = run_cut options.run options.summary scene a b part;
+      cut = run_cut options.run options.summary (tells_place options) scene a b part;
     }
 
 -- the record of a fault was written

@@ -1,6 +1,6 @@
 -- What is written of a scene's run: its records, or of a play the one record that sums them up.
 use Rattle.std.specs.Prelude.{ℕ, Bool, true, false, List, [], ◌∷◌, Option}
-use Rattle.sf_live.specs.Runs.{MeansLive, WroteLive}
+use Rattle.sf_live.specs.Runs.{CutLive, MeansLive, WroteLive}
 use Rattle.sf_app_options.specs.declared.options.Run.{Run}
 use Rattle.sf_app_options.specs.declared.options.Run.TheVariants as run
 use Rattle.sf_script_scene.specs.Scene.{SceneValue}
@@ -9,7 +9,7 @@ use Rattle.sf_record_sums.specs.sf_record.declared.record.Record.{Record}
 use Rattle.sf_record_sums.specs.sf_record.declared.record.Record.TheVariants as rec
 use Rattle.sf_live.specs.law_played.Ends.{ArePlayRecords}
 use Rattle.sf_live.specs.law_play_order.Happening.{HappenedInOrder}
-use Rattle.sf_live.specs.sf_play_write.Writing.{CutSome, Writes, WritesPart}
+use Rattle.sf_live.specs.sf_play_write.Writing.{Writes, WritesPart}
 use Rattle.sf_record_sums.specs.Summaries.{summary_of, wrapped}
 
 -- what is written of records: they themselves, or under `--summary` the one record of what they come to, each number modulo 2^64
@@ -46,7 +46,7 @@ abbrev pub ShowsRun : Run → Bool → Bool → SceneValue → Option (List ℕ)
 ShowsRun run.Live summary tells scene old new = WroteLive tells scene old new
 ShowsRun _ summary tells scene old new = ShowsPlay summary scene old new
 
--- a prefix was written: of a run in threads whole records, and then at most one that is cut, or of what shows the scene's play
-abbrev pub ShowsRunPart : Run → Bool → SceneValue → Option (List ℕ) → Option (List ℕ) → Type 0
-ShowsRunPart run.Live summary scene old new = CutSome old new
-ShowsRunPart _ summary scene old new = ShowsPart summary scene old new
+-- a prefix was written: of a run in threads, or of what shows the scene's play
+abbrev pub ShowsRunPart : Run → Bool → Bool → SceneValue → Option (List ℕ) → Option (List ℕ) → Type 0
+ShowsRunPart run.Live summary tells scene old new = CutLive tells scene old new
+ShowsRunPart _ summary tells scene old new = ShowsPart summary scene old new

@@ -61,7 +61,7 @@ pub record RefusedScript (asked : Option Options) (left rest taken now : Option 
 
 -- of what a script asks for a prefix was written: of what shows the scene's run, or of the record of the fault
 abbrev pub PrefixOf : Options → Result SceneValue ScriptFault → Option (List ℕ) → Option (List ℕ) → Type 0
-PrefixOf options (Ok scene) old new = ShowsRunPart options.run options.summary scene old new
+PrefixOf options (Ok scene) old new = ShowsRunPart options.run options.summary (tells_place options) scene old new
 PrefixOf options (Err fault) old new = TookPrefix old new (fault_bytes fault)
 
 -- of whatever script the words ask for, if it is known, a prefix was written of what it asks for; without right words nothing

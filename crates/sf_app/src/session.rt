@@ -80,7 +80,7 @@ fn show_run<R: Threads + Wait + Sync, K: Sink, G: Gate + Sync>(
     requires some { 1 ≤ options.workers }
     requires few { options.workers ≤ 16 }
     ensures ok { OnOk result (ShowsRun options.run options.summary (tells_place options) scene (K.taken sink.old) (K.taken sink.new)) }
-    ensures err { OnErr result (ShowsRunPart options.run options.summary scene (K.taken sink.old) (K.taken sink.new)) }
+    ensures err { OnErr result (ShowsRunPart options.run options.summary (tells_place options) scene (K.taken sink.old) (K.taken sink.new)) }
     ensures later { K.faults sink.old ≤ K.faults sink.new }
     ensures failed { IsErrOf result WriteFault → Rose (K.faults sink.old) (K.faults sink.new) }
 {
@@ -189,7 +189,9 @@ fn follow<R: Threads + Wait + Sync, S: Source, K: Sink, G: Gate + Sync>(
 /// | 5 | out of memory; no clause says when memory is short |
 ///
 /// Whatever the status is, what a play of a scene wrote is a prefix of the records of its play, or of
-/// the record that sums them up; a live run wrote whole records, and then at most one that is cut.
+/// the record that sums them up. What a live run wrote is a prefix of the scene's record and whole
+/// vsyncs, each with the results that its tree gives, or, once all vsyncs are written, of all records
+/// of the run.
 /// What is said of bytes holds where source and sink say what theirs are.
 ///
 /// A live run asks the gate before each step of an actor, and may wait for the actors' threads; a play

@@ -41,11 +41,11 @@ use Rattle.sf_live_compositor.specs.sf_play.Going.{EndsRun}
 use Rattle.sf_live_compositor.specs.sf_play.Players.{PlayerOf, SoFar, arrived_at, home_in, run_so, view_in}
 use Rattle.sf_live_compositor.specs.sf_play.Standing.{StandsInRun}
 use Rattle.sf_live_compositor.specs.sf_play_write.Closings.{closing_of}
-use Rattle.sf_live_compositor.specs.sf_play_write.Writing.{CutSome, Writes, WritesPart}
+use Rattle.sf_live_compositor.specs.sf_play_write.Writing.{Writes, WritesPart}
 use Rattle.sf_live_compositor.proofs.sf_play_write_lemmas.ClosingLemmas.{closing_is}
-use Rattle.sf_live_compositor.proofs.sf_play_write_lemmas.WritingLemmas.{cut_part, part_front, part_more, writes_more}
+use Rattle.sf_live_compositor.proofs.sf_play_write_lemmas.WritingLemmas.{part_front, part_more, writes_more}
 use Rattle.sf_live.specs.inner.Rounds.{HasShownAll, all_reply_records, vsyncs_alone}
-use Rattle.sf_live.specs.Runs.{MeansLive, WroteLive}
+use Rattle.sf_live.specs.Runs.{CutLive, FitsLive, MeansLive, WroteLive, in_rest}
 use Rattle.sf_live.proofs.RoundLemmas.{records_more}
 
 -- the next piece of what is made of a list was written behind those before
@@ -120,19 +120,30 @@ module _ {B : Type 0} where
         ∙ sym (append_assoc (opening scene ∷ events_records (vsyncs_alone so.events)) (events_records (flat_map (reply_events run) (rising_actors scene))) ends)
         ∙ ap (λ (rs : List Record). (opening scene ∷ rs) ++ ends) (sym (records_more (vsyncs_alone so.events) (flat_map (reply_events run) (rising_actors scene))))
 
-    -- they mean what a run in threads means, in one order, with nobody passed over
-    means_live : EndsRun scene so player → IsInOrder (home_in player.play).tells scene so player.play → All RecordFits (records_of scene (shows_late scene so player)) → MeansLive (home_in player.play).tells scene (records_of scene (shows_late scene so player))
-    means_live ends in_order fit =
+    -- they are those of a run in threads, in one order, with nobody passed over
+    fits_live : EndsRun scene so player → IsInOrder (home_in player.play).tells scene so player.play → FitsLive (home_in player.play).tells scene (shows_late scene so player)
+    fits_live ends in_order =
         let run = run_so so player.play in
         let same = same_vsyncs run scene so.events in
         record {
-          live = record {
-            played = record { shows = shows_late scene so player; order = refl; fit = fit; run = run; arrivals = arrived_at player.play; fits = fits_late table scene so player stands ends };
-            late = ap (λ (vs : List VsyncRecords). map event.Vsync vs ++ flat_map (reply_events run) (rising_actors scene)) (sym same);
-          };
+          run = run;
+          arrivals = arrived_at player.play;
+          fits = fits_late table scene so player stands ends;
+          late = ap (λ (vs : List VsyncRecords). map event.Vsync vs ++ flat_map (reply_events run) (rising_actors scene)) (sym same);
           order = subst (λ (vs : List VsyncRecords). InOneOrder (home_in player.play).tells (record (happened_so scene so player.play) { vsyncs = vs })) (sym same) in_order.order.order;
           none = subst (λ (vs : List VsyncRecords). LeavesNone (arrived_at player.play) (told_of scene (arrived_at player.play) vs)) (sym same) (none_of_all table scene so player.play stands.stands.stands in_order.none);
         }
+
+    -- where their numbers fit their fields, they mean what such a run means
+    means_live : FitsLive (home_in player.play).tells scene (shows_late scene so player) → All RecordFits (records_of scene (shows_late scene so player)) → MeansLive (home_in player.play).tells scene (records_of scene (shows_late scene so player))
+    means_live fits fit = record {
+      live = record {
+        played = record { shows = shows_late scene so player; order = refl; fit = fit; run = fits.run; arrivals = fits.arrivals; fits = fits.fits };
+        late = fits.late;
+      };
+      order = fits.order;
+      none = fits.none;
+    }
 
   module _ (table : TableId) (scene : SceneValue) (a b c : Option (List ℕ)) (player : PlayerOf B) (has : HasShownAll table scene a b player) where
     -- the rest of the records was written behind all others, or a part of it
@@ -140,12 +151,12 @@ module _ {B : Type 0} where
     live_written (Ok u) rest =
         let written = subst (Writes a c) (all_records table scene has.so player has.stands)
         (writes_more a b c (opening scene ∷ events_records (vsyncs_alone has.so.events)) (all_reply_records player.play.actor_set.actors ++ closing_of player) has.written rest) in
-        record { records = records_of scene (shows_late scene has.so player); means = means_live table scene has.so player has.stands has.ends has.in_order written.fits; written = written }
+        record { records = records_of scene (shows_late scene has.so player); means = means_live table scene has.so player has.stands (fits_live table scene has.so player has.stands has.ends has.in_order) written.fits; written = written }
     live_written (Err e) rest = tt
 
-    pub live_cut : (r : Result (Unit {0}) RunFault) → OnErr r (WritesPart b c (all_reply_records player.play.actor_set.actors ++ closing_of player)) → OnErr r (CutSome a c)
+    pub live_cut : (r : Result (Unit {0}) RunFault) → OnErr r (WritesPart b c (all_reply_records player.play.actor_set.actors ++ closing_of player)) → OnErr r (CutLive (home_in player.play).tells scene a c)
     live_cut (Ok u) rest = tt
     live_cut (Err e) rest =
-        let before = opening scene ∷ events_records (vsyncs_alone has.so.events) in
-        let more = all_reply_records player.play.actor_set.actors ++ closing_of player in
-        cut_part a c (before ++ more) (part_more a b c before more has.written rest)
+        in_rest (shows_late scene has.so player) (fits_live table scene has.so player has.stands has.ends has.in_order)
+        (subst (WritesPart a c) (all_records table scene has.so player has.stands)
+        (part_more a b c (opening scene ∷ events_records (vsyncs_alone has.so.events)) (all_reply_records player.play.actor_set.actors ++ closing_of player) has.written rest))

@@ -30,7 +30,7 @@ use Rattle.sf_live.proofs.RoundLemmas.{records_more}
 use Rattle.sf_live.proofs.VsyncReports.{told_is}
 
 -- a vsync that commits nothing has no records
-records_told : (commits : List Commit) (told shown : VsyncRecords) → shown ≡ told → records_if commits told ≡ events_records (map event.Vsync (if has_commits commits then shown ∷ [] else []))
+pub records_told : (commits : List Commit) (told shown : VsyncRecords) → shown ≡ told → records_if commits told ≡ events_records (map event.Vsync (if has_commits commits then shown ∷ [] else []))
 unfolding events_records
 records_told [] told shown same = refl
 records_told (commit ∷ commits) told shown same = ap vsync_records (sym same) ∙ sym (append-nil (vsync_records shown))

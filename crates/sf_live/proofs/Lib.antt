@@ -6,6 +6,8 @@ pub mod Frames
 pub mod ActorSetLemmas
 pub mod Together
 pub mod GoingOn
+pub mod VsyncsBegun
+pub mod CutRuns
 pub mod RunLemmas
 pub mod StartOfRun
 pub mod GateLemmas

@@ -1,9 +1,10 @@
 -- The vsyncs of the rounds behind a run, and how far they have been written.
-use Rattle.std.proofs.Common.{◌≡◌, ℕ, not, List, [], ◌∷◌, ◌++◌, map, Option, ap, ◌∙◌, sym, subst, inl, inr}
+use Rattle.std.proofs.Common.{◌≡◌, ℕ, Bool, not, List, [], ◌∷◌, ◌++◌, map, Option, ap, ◌∙◌, sym, subst, inl, inr}
 use Rattle.std.specs.Prelude.{◌⊎◌}
 use Rattle.std.specs.List.{flat_map}
 use Rattle.std.proofs.lemmas.List.{append-nil, map-append}
 use Rattle.std.proofs.lemmas.List.Concat.{flat_map-append}
+use Rattle.std.proofs.lemmas.List.Elements.{All-weaker}
 use Rattle.atomic_table.specs.Seated.{TableId}
 use Rattle.sf_picture.specs.declared.picture.Picture.{Picture}
 use Rattle.sf_live_compositor.specs.sf_output_plan.declared.plan.Plan.{Plan}
@@ -21,7 +22,7 @@ use Rattle.sf_live_compositor.specs.sf_record.declared.record.ReplyRecord.{Reply
 use Rattle.sf_live_compositor.specs.sf_play_report.Reports.{has_commits}
 use Rattle.sf_live_compositor.specs.sf_play_report.Stages.{AreExpected, IsStage}
 use Rattle.sf_live_compositor.specs.sf_play_report.declared.report.VsyncReport.{VsyncReport}
-use Rattle.sf_live_compositor.specs.law_played.Frames.{plan_of}
+use Rattle.sf_live_compositor.specs.law_played.Frames.{ShowsImage, plan_of}
 use Rattle.sf_live_compositor.specs.law_played.Played.{opening}
 use Rattle.sf_live_compositor.specs.law_played.Replies.{reply_shown}
 use Rattle.sf_live_compositor.specs.law_played.Vsyncs.{rising_timelines, vsync_in, vsyncs_in}
@@ -29,16 +30,18 @@ use Rattle.sf_live_compositor.specs.sf_output_screen.ScreenLists.{AreShown}
 use Rattle.sf_live_compositor.specs.sf_output_screen.declared.screens.OutputScreen.{OutputScreen}
 use Rattle.sf_live_compositor.specs.sf_play.Going.{GoesOn, TellsStage}
 use Rattle.sf_live_compositor.specs.sf_play.Happening.{VsyncHappens}
-use Rattle.sf_live_compositor.specs.sf_play.Players.{PlayOf, PlayerOf, SoFar, home_in}
+use Rattle.sf_live_compositor.specs.sf_play.Players.{PlayOf, PlayerOf, SoFar, home_in, signals_so, taken_at, told_at}
 use Rattle.sf_live_compositor.specs.sf_play.Playing.{expected_by}
+use Rattle.sf_live_compositor.specs.sf_play.Standing.{StandsInRun}
 use Rattle.sf_live_compositor.specs.sf_play.Showing.{vsync_shown as play_shown}
 use Rattle.sf_live_compositor.specs.sf_play.declared.action.Action.{Action}
 use Rattle.sf_live_compositor.specs.sf_play.declared.action.Action.TheVariants as action
 use Rattle.sf_live_compositor.specs.sf_play.Actions.{is_end}
-use Rattle.sf_live_compositor.specs.sf_play_write.Vsyncs.{records_if, told_with}
-use Rattle.sf_live_compositor.specs.sf_play_write.Writing.{CutSome, Writes, WritesPart}
-use Rattle.sf_live_compositor.proofs.sf_play_write_lemmas.WritingLemmas.{cut_part, part_more, part_whole, writes_more}
+use Rattle.sf_live_compositor.specs.sf_play_write.Vsyncs.{records_if, told_with, without_image}
+use Rattle.sf_live_compositor.specs.sf_play_write.Writing.{Writes, WritesPart}
+use Rattle.sf_live_compositor.proofs.sf_play_write_lemmas.WritingLemmas.{part_more, part_whole, writes_more}
 use Rattle.law_live_order.specs.law_rounds.Rounds.{IsInOrder}
+use Rattle.sf_live.specs.Runs.{BeginsLive, CutLive, ShowsOutputs, in_vsyncs}
 use Rattle.sf_live.specs.inner.Rounds.{HasShown, MayWriteAction, ShowsOn, action_written, vsyncs_alone}
 use Rattle.sf_live.proofs.VsyncReports.{told_is}
 
@@ -155,15 +158,30 @@ module _ {B : Type 0} where
   shows_on table scene plan timelines start a b before screens old player (action.Vsync report) has goes in_order now shown =
       goes_on table scene plan timelines start a b before screens old player (action.Vsync report) has goes in_order now shown
 
-  -- nothing more was written, or a part of an action
-  pub cut_before : (table : TableId) (scene : SceneValue) (plan : Plan) (timelines : List ℕ) (start a : Option (List ℕ)) (before : List OutputScreen) (old : PlayerOf B) → HasShown table scene plan timelines start a before old
-      → CutSome start a
-  cut_before table scene plan timelines start a before old has =
-      let records = opening scene ∷ events_records (vsyncs_alone has.so.events) in
-      cut_part start a records (part_whole start a records has.written)
+  -- what was written so far is how a live run begins
+  stands_begun : (table : TableId) (scene : SceneValue) (so : SoFar B) (player : PlayerOf B) → StandsInRun table scene so player → BeginsLive scene (vsyncs_in so.events)
+  stands_begun table scene so player stands =
+      let made = stands.stands.stands.vsyncs in
+      record {
+        signals = signals_so scene so player.play;
+        are = made.vsyncs;
+        arrivals = taken_at player.play;
+        last = player.play.handler.last;
+        order = made.played.order;
+        results = made.played.results;
+        outputs = All-weaker (ShowsImage scene) (ShowsOutputs scene) (λ told shows. sym (ap (map without_image) shows)) (told_at scene so player.play) made.frames;
+      }
 
-  pub action_cut : (table : TableId) (scene : SceneValue) (plan : Plan) (timelines : List ℕ) (start a b : Option (List ℕ)) (before : List OutputScreen) (old : PlayerOf B) (more : List Record)
-      → HasShown table scene plan timelines start a before old → WritesPart a b more → CutSome start b
-  action_cut table scene plan timelines start a b before old more has part =
-      let records = opening scene ∷ events_records (vsyncs_alone has.so.events) in
-      cut_part start b (records ++ more) (part_more start a b records more has.written part)
+  -- nothing more was written, or a part of an action
+  pub cut_before : (tells : Bool) (table : TableId) (scene : SceneValue) (plan : Plan) (timelines : List ℕ) (start a : Option (List ℕ)) (before : List OutputScreen) (old : PlayerOf B)
+      → HasShown table scene plan timelines start a before old → CutLive tells scene start a
+  cut_before tells table scene plan timelines start a before old has =
+      in_vsyncs (vsyncs_in has.so.events) (stands_begun table scene has.so old has.stands) (part_whole start a (opening scene ∷ events_records (vsyncs_alone has.so.events)) has.written)
+
+  pub action_cut : (tells : Bool) (table : TableId) (scene : SceneValue) (plan : Plan) (timelines : List ℕ) (start a b : Option (List ℕ)) (before : List OutputScreen) (old player : PlayerOf B) (came_to : Action)
+      (has : HasShown table scene plan timelines start a before old) (goes : GoesOn table scene has.so came_to player) → WritesPart a b (action_written (picture_at scene.pictures) plan timelines player came_to)
+      → CutLive tells scene start b
+  action_cut tells table scene plan timelines start a b before old player came_to has goes part =
+      in_vsyncs (vsyncs_in goes.later.events) (stands_begun table scene goes.later player goes.stands)
+      (subst (WritesPart start b) (ap (λ (rs : List Record). opening scene ∷ rs) (action_records table scene plan timelines has.so came_to player has.planned has.rising goes))
+      (part_more start a b (opening scene ∷ events_records (vsyncs_alone has.so.events)) (action_written (picture_at scene.pictures) plan timelines player came_to) has.written part))

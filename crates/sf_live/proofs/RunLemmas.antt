@@ -18,7 +18,6 @@ use Rattle.sf_live_compositor.specs.sf_commit.OnLayers.{at_hand}
 use Rattle.sf_live_compositor.specs.sf_actor.Plain.{taken_in}
 use Rattle.sf_script_scene.specs.Limits.{most_layers}
 use Rattle.sf_script_scene.specs.Scene.{SceneValue}
-use Rattle.sf_script_scene.specs.declared.declarations.Pick.{Pick}
 use Rattle.sf_live_compositor.specs.sf_output_plan.Due.{IsPlan}
 use Rattle.sf_live_compositor.specs.sf_output_plan.declared.plan.Plan.{Plan}
 use Rattle.sf_live_compositor.specs.sf_play_report.declared.report.VsyncReport.{VsyncReport}
@@ -29,9 +28,10 @@ use Rattle.sf_live_compositor.specs.law_played.Played.{opening}
 use Rattle.sf_live_compositor.specs.sf_output_screen.ScreenLists.{AreShown}
 use Rattle.sf_live_compositor.specs.sf_output_screen.Screens.{IsShown}
 use Rattle.sf_live_compositor.specs.sf_output_screen.declared.screens.OutputScreen.{OutputScreen}
-use Rattle.sf_live_compositor.specs.sf_play_write.Writing.{CutSome, Writes}
+use Rattle.sf_live_compositor.specs.sf_play_write.declared.shows.Shows.{Shows}
+use Rattle.sf_live_compositor.specs.sf_play_write.Writing.{Writes}
 use Rattle.sf_live_compositor.proofs.sf_play_write_lemmas.ActionLemmas.{timelines_within}
-use Rattle.sf_live_compositor.proofs.sf_play_write_lemmas.WritingLemmas.{cut_none, cut_part, part_whole, some_whole, writes_none}
+use Rattle.sf_live_compositor.proofs.sf_play_write_lemmas.WritingLemmas.{part_whole, writes_none}
 use Rattle.sf_live_compositor.specs.sf_live_seats.declared.first.FirstSeats.{FirstSeats}
 use Rattle.sf_live_compositor.specs.sf_live_seats.declared.locks.Locks.{Locks}
 use Rattle.sf_live_compositor.specs.sf_live_seats.First.{HasAll, IsFirst, KnowsNothing}
@@ -43,15 +43,18 @@ use Rattle.sf_live_compositor.specs.sf_live_threads.Returns.{Returns}
 use Rattle.sf_live_compositor.specs.sf_live_threads.Visits.{HasLeftOrIs}
 use Rattle.sf_live_compositor.specs.declared.compositor.Compositor.{Compositor}
 use Rattle.sf_live_compositor.specs.Keeping.{HasEnded, IsSame, Keeps, sitting_of}
-use Rattle.sf_live_compositor.specs.Sitting.{Sits, SitsWith}
+use Rattle.sf_live_compositor.specs.Sitting.{CutVsyncs, Sits, SitsWith}
 use Rattle.sf_live_compositor.specs.Vsyncs.{Begin}
+use Rattle.sf_live_compositor.proofs.Due.{cut_kept, cut_so}
 use Rattle.sf_live.specs.declared.opening.Opened.{Opened}
+use Rattle.sf_live.specs.declared.scene.Setup.{Setup}
 use Rattle.sf_live.specs.declared.threads.Joined.{Joined}
 use Rattle.sf_live.specs.Openings.{IsOpen}
 use Rattle.sf_live.specs.inner.Running.{CameTogether, MayRun, Starts, WasCut, run_by}
 use Rattle.sf_live.specs.inner.Resuming.{GoesFrom, HasCome}
-use Rattle.sf_live.specs.Runs.{LiveEnded}
+use Rattle.sf_live.specs.Runs.{CutLive, LiveEnded}
 use Rattle.sf_live.specs.inner.Threads.{HasRun, IsTogether, RunOf}
+use Rattle.sf_live.proofs.CutRuns.{cut_unmade}
 use Rattle.sf_live.proofs.JoinedRun.{has_given, has_run}
 
 pub of_err : {X E : Type 0} (P : E → Type 0) (rest : Result X E) (e : E) → rest ≡ Err e → IfErr rest P → P e
@@ -80,13 +83,13 @@ abbrev IsWanting : {A : Type 0} → Result A RunFault → Type 0
 IsWanting (Ok x) = ⊥
 IsWanting (Err e) = IsWant e
 
--- a run that ends for want of memory, where whole records were written, and then at most one that is cut
-pub ended_wanting : {A : Type 0} (tells : Bool) (scene : SceneValue) (start now : Option (List ℕ)) (count : ℕ) → CutSome start now → LiveEnded {A = A} tells scene (Err NoMemory) start now count count
+-- a run that ends for want of memory
+pub ended_wanting : {A : Type 0} (tells : Bool) (scene : SceneValue) (start now : Option (List ℕ)) (count : ℕ) → CutLive tells scene start now → LiveEnded {A = A} tells scene (Err NoMemory) start now count count
 ended_wanting tells scene start now count cut = record { ok = tt; err = cut; later = omega arith; failed = λ is. absurd (subst IsWanting is tt) }
 
 -- the same behind the record that begins it
 pub ended_early : {A : Type 0} (tells : Bool) (scene : SceneValue) (start now : Option (List ℕ)) (count : ℕ) → Writes start now (opening scene ∷ []) → LiveEnded {A = A} tells scene (Err NoMemory) start now count count
-ended_early tells scene start now count begun = ended_wanting tells scene start now count (cut_part start now (opening scene ∷ []) (part_whole start now (opening scene ∷ []) begun))
+ended_early tells scene start now count begun = ended_wanting tells scene start now count (cut_unmade tells scene start now (part_whole start now (opening scene ∷ []) begun))
 
 abbrev IsMemory : Stopped → Type 0
 IsMemory stopped.NoMemory = Unit {0}
@@ -94,12 +97,12 @@ IsMemory stopped.Ended = ⊥
 
 module _ {K B : Type 0} {naming : Naming B} where
   pub same_self : (c : Compositor K B naming) → IsSame c c
-  same_self c = record { workers = refl; plan = refl; period = refl; timelines = refl; sink = refl }
+  same_self c = record { workers = refl; shows = refl; period = refl; sink = refl }
 
   -- where the compositor ended the run
-  pub cut_ended : (taken : K → Option (List ℕ)) (faults : K → ℕ) (c now : Compositor K B naming) (fault : RunFault) → (fault ≡ WriteFault → now.fault ≡ Some WriteFault)
-      → HasEnded taken faults c now → WasCut taken faults c now fault
-  cut_ended taken faults c now fault caused ended = record {
+  pub cut_ended : (taken : K → Option (List ℕ)) (faults : K → ℕ) (lease : Ghosts ReadLeaseOf SeatView ReadLeaseOf Issued) (table : TableId) (c now : Compositor K B naming) (fault : RunFault)
+      → (fault ≡ WriteFault → now.fault ≡ Some WriteFault) → HasEnded taken faults lease table c now → WasCut taken faults lease table c now fault
+  cut_ended taken faults lease table c now fault caused ended = record {
     same = ended.same;
     cut = ended.cut;
     faults_rise = ended.faults_rise;
@@ -109,16 +112,16 @@ module _ {K B : Type 0} {naming : Naming B} where
 module _ {K B : Type 0} {naming : Naming B} (taken : K → Option (List ℕ)) (faults : K → ℕ) (lease : Ghosts ReadLeaseOf SeatView ReadLeaseOf Issued) (table : TableId) (scene : SceneValue) (opened : Opened B) (c : Compositor K B naming)
     (opens : IsOpen scene table opened) (starts : Starts scene c) (unused : KnowsNothing opened.first.seats) where
   -- before the first vsync
-  pub kept_first : (after_seating : FirstSeats B) → GivesEach opened.first (map number_of opened.actors.items) after_seating → Keeps taken faults lease table c c opened.locks after_seating
-  kept_first after_seating gives =
-      let given = has_given opened.first (map number_of opened.actors.items) after_seating unused gives in
+  kept_by : (callers : List ℕ) (after_seating : FirstSeats B) → GivesEach opened.first callers after_seating → Keeps taken faults lease table c c opened.locks after_seating
+  kept_by callers after_seating gives =
+      let given = has_given opened.first callers after_seating unused gives in
       let handler = starts.handler in
       let last = ap (λ (h : HandlerOf ReadLeaseOf). h.last) handler in
       let step = given.step in
       let opened_step = opens.step in
       let none = starts.none_made in
-      let wide : c.plan.width ≡ scene.width = ap (λ (p : Plan). p.width) starts.planned ∙ plan_wide scene in
-      let high : c.plan.height ≡ scene.height = ap (λ (p : Plan). p.height) starts.planned ∙ plan_high scene in
+      let wide : c.shows.plan.width ≡ scene.width = ap (λ (p : Plan). p.width) starts.planned ∙ plan_wide scene in
+      let high : c.shows.plan.height ≡ scene.height = ap (λ (p : Plan). p.height) starts.planned ∙ plan_high scene in
       let most : c.decider.handler.tree.most ≡ most_layers scene.version = ap (λ (h : HandlerOf ReadLeaseOf). h.tree.most) handler in
       let low = few_layers scene.version in
       record {
@@ -126,7 +129,7 @@ module _ {K B : Type 0} {naming : Naming B} (taken : K → Option (List ℕ)) (f
         few = omega (arith, none);
         log = record {
           set = starts.set;
-          sits = subst (λ (due : Option VsyncReport). SitsWith lease table opened.locks c.period due c.plan c.decider.handler.tree.most c.timelines.items (taken c.sink.now) (taken c.sink.now) c.screens (sitting_of after_seating c)) (sym starts.none_due) (record {
+          sits = subst (λ (due : Option VsyncReport). SitsWith lease table opened.locks c.period due c.shows.plan c.decider.handler.tree.most c.shows.timelines.items (taken c.sink.now) (taken c.sink.now) c.screens (sitting_of after_seating c)) (sym starts.none_due) (record {
             start = sitting_of after_seating c;
             fresh = record {
               handler = handler ∙ (λ i. new_handler (sym wide i) (sym high i) (sym most i));
@@ -137,6 +140,7 @@ module _ {K B : Type 0} {naming : Naming B} (taken : K → Option (List ℕ)) (f
             };
             log = Begin;
             written = λ pictures found. no_writing pictures (taken c.sink.now) c.screens starts.screens;
+            told = refl;
           });
           may = record {
             alive = ap (λ (h : HandlerOf ReadLeaseOf). h.is_spent) handler;
@@ -152,9 +156,18 @@ module _ {K B : Type 0} {naming : Naming B} (taken : K → Option (List ℕ)) (f
             early = omega (arith, step, opened_step);
           };
         };
-        some = record { records = []; written = writes_none (taken c.sink.now) };
         faults_rise = omega arith;
       }
+
+  pub kept_first : (after_seating : FirstSeats B) → GivesEach opened.first (map number_of opened.actors.items) after_seating → Keeps taken faults lease table c c opened.locks after_seating
+  kept_first after_seating gives = kept_by (map number_of opened.actors.items) after_seating gives
+
+  -- a prefix of its vsyncs is written of one that keeps what it keeps
+  cut_keeps : (locks : Locks B) (now : Compositor K B naming) (first : FirstSeats B) → Keeps taken faults lease table c now locks first
+      → CutVsyncs B lease table c.period c.shows.plan c.decider.handler.tree.most c.shows.timelines.items (taken c.sink.now) (taken now.sink.now)
+  cut_keeps locks now first keeps =
+      cut_so now.period c.period now.shows.plan c.shows.plan c.decider.handler.tree.most now.shows.timelines.items c.shows.timelines.items keeps.same.period (ap (λ (s : Shows). s.plan) keeps.same.shows) (ap (λ (s : Shows). s.timelines.items) keeps.same.shows)
+      (cut_kept lease table locks now.period now.shows.plan c.decider.handler.tree.most now.shows.timelines.items (taken c.sink.now) (taken now.sink.now) now.screens (sitting_of first now) now.due keeps.log.sits)
 
   -- what it keeps beside what lets it compose in threads
   module _ (S : Type 0) where
@@ -174,17 +187,17 @@ module _ {K B : Type 0} {naming : Naming B} (taken : K → Option (List ℕ)) (f
         abbrev pub ran : RunOf B
         ran = run_by taken faults scene returns.attended.seats c settled
 
-        all_sit : Sits lease table opened.locks settled.period settled.plan c.decider.handler.tree.most settled.timelines.items (taken c.sink.now) (taken settled.sink.now) settled.screens (sitting_of returns.attended settled)
+        all_sit : Sits lease table opened.locks settled.period settled.shows.plan c.decider.handler.tree.most settled.shows.timelines.items (taken c.sink.now) (taken settled.sink.now) settled.screens (sitting_of returns.attended settled)
         all_sit =
-            subst (λ (due : Option VsyncReport). SitsWith lease table opened.locks settled.period due settled.plan c.decider.handler.tree.most settled.timelines.items (taken c.sink.now) (taken settled.sink.now) settled.screens (sitting_of returns.attended settled))
+            subst (λ (due : Option VsyncReport). SitsWith lease table opened.locks settled.period due settled.shows.plan c.decider.handler.tree.most settled.shows.timelines.items (taken c.sink.now) (taken settled.sink.now) settled.screens (sitting_of returns.attended settled))
             none still.log.sits
 
         pub came_returned : HasRun lease table ran opened.locks opened.pictures all_returned
         came_returned =
             has_run lease table ran opened opens unused KeepsSo now all_returned first all returns refl
-            (subst (λ (p : ℕ). Sits lease table opened.locks p (plan_of scene) (most_layers scene.version) settled.timelines.items (taken c.sink.now) (taken settled.sink.now) settled.screens (sitting_of returns.attended settled)) (still.same.period ∙ starts.period)
-            (subst (λ (p : Plan). Sits lease table opened.locks settled.period p (most_layers scene.version) settled.timelines.items (taken c.sink.now) (taken settled.sink.now) settled.screens (sitting_of returns.attended settled)) (still.same.plan ∙ starts.planned)
-            (subst (λ (most : ℕ). Sits lease table opened.locks settled.period settled.plan most settled.timelines.items (taken c.sink.now) (taken settled.sink.now) settled.screens (sitting_of returns.attended settled)) (ap (λ (h : HandlerOf ReadLeaseOf). h.tree.most) starts.handler)
+            (subst (λ (p : ℕ). Sits lease table opened.locks p (plan_of scene) (most_layers scene.version) settled.shows.timelines.items (taken c.sink.now) (taken settled.sink.now) settled.screens (sitting_of returns.attended settled)) (still.same.period ∙ starts.period)
+            (subst (λ (p : Plan). Sits lease table opened.locks settled.period p (most_layers scene.version) settled.shows.timelines.items (taken c.sink.now) (taken settled.sink.now) settled.screens (sitting_of returns.attended settled)) (ap (λ (s : Shows). s.plan) still.same.shows ∙ starts.planned)
+            (subst (λ (most : ℕ). Sits lease table opened.locks settled.period settled.shows.plan most settled.shows.timelines.items (taken c.sink.now) (taken settled.sink.now) settled.screens (sitting_of returns.attended settled)) (ap (λ (h : HandlerOf ReadLeaseOf). h.tree.most) starts.handler)
             all_sit)))
             still.few
 
@@ -193,30 +206,29 @@ module _ {K B : Type 0} {naming : Naming B} (taken : K → Option (List ℕ)) (f
           same = still.same;
           seats = returns.attended.seats;
           together = together;
-          some = still.some;
           faults_rise = still.faults_rise;
         }
 
         -- where there was no memory to bring the actors together
-        pub cut_returned : (why : RunFault) → (why ≡ WriteFault → ⊥) → WasCut taken faults c settled why
+        pub cut_returned : (why : RunFault) → (why ≡ WriteFault → ⊥) → WasCut taken faults lease table c settled why
         cut_returned why other = record {
           same = still.same;
-          cut = some_whole (taken c.sink.now) (taken settled.sink.now) still.some;
+          cut = cut_keeps opened.locks settled returns.attended still;
           faults_rise = still.faults_rise;
           failed = λ is. absurd (other is);
         }
 
     -- where the threads came to no end
     pub cut_threads : (locks : Locks B) (now : Compositor K B naming) (why : Stopped) (fault : RunFault) → (fault ≡ WriteFault → (why ≡ stopped.Ended) × (now.fault ≡ Some WriteFault))
-        → HasLeftOrIs KeepsSo (HasEnded taken faults c) locks c now why → WasCut taken faults c now fault
+        → HasLeftOrIs KeepsSo (HasEnded taken faults lease table c) locks c now why → WasCut taken faults lease table c now fault
     cut_threads locks now why fault caused (inl same) =
         let failed : fault ≡ WriteFault → Rose (faults c.sink.now) (faults c.sink.now) =
         λ is. absurd (false≢true (ap is_some (sym starts.fine ∙ ap (λ (n : Compositor K B naming). n.fault) (sym same) ∙ (caused is).1))) in
-        subst (λ (n : Compositor K B naming). WasCut taken faults c n fault) (sym same) (record { same = same_self c; cut = cut_none (taken c.sink.now); faults_rise = omega arith; failed = failed })
-    cut_threads locks now stopped.Ended fault caused (inr ended) = cut_ended taken faults c now fault (λ is. (caused is).1) ended
+        subst (λ (n : Compositor K B naming). WasCut taken faults lease table c n fault) (sym same) (record { same = same_self c; cut = cut_keeps opened.locks c opened.first (kept_by [] opened.first refl); faults_rise = omega arith; failed = failed })
+    cut_threads locks now stopped.Ended fault caused (inr ended) = cut_ended taken faults lease table c now fault (λ is. (caused is).1) ended
     cut_threads locks now stopped.NoMemory fault caused (inr (first, left)) = record {
       same = left.1.same;
-      cut = some_whole (taken c.sink.now) (taken now.sink.now) left.1.some;
+      cut = cut_keeps locks now first left.1;
       faults_rise = left.1.faults_rise;
       failed = λ is. absurd (subst IsMemory (caused is).0 tt);
     }
@@ -227,35 +239,37 @@ module _ {K B : Type 0} {naming : Naming B} (taken : K → Option (List ℕ)) (f
   abbrev pub run_came : RunOf B
   run_came = run_by taken faults scene came.seats start now
 
-  pub goes_from : (before : Option (List ℕ)) (opened : Opened B) (plan : Plan) (period : ℕ) (order : List Pick) (handler : HandlerOf ReadLeaseOf) (vsyncs : ℕ) (first : HandlerOf ReadLeaseOf)
-      → MayRun table scene before (taken start.sink.now) start.timelines.items plan period order first opened → handler ≡ now.decider.handler → vsyncs ≡ now.vsyncs → GoesFrom run_came before period order handler vsyncs
-  goes_from before opened plan period order handler vsyncs first may same_handler same_vsyncs = record {
+  pub goes_from : (before : Option (List ℕ)) (opened : Opened B) (setup : Setup B) (handler : HandlerOf ReadLeaseOf) (vsyncs : ℕ) → start.shows ≡ setup.shows → MayRun table scene before (taken start.sink.now) setup opened
+      → handler ≡ now.decider.handler → vsyncs ≡ now.vsyncs → GoesFrom run_came before setup.period setup.order handler vsyncs
+  goes_from before opened setup handler vsyncs shows may same_handler same_vsyncs = record {
     same_period = may.same_period;
     same_order = may.same_order;
     same_handler = same_handler;
     same_vsyncs = same_vsyncs;
-    rising = ap (λ t. t.items) came.same.timelines ∙ may.rising;
+    rising = ap (λ (s : Shows). s.timelines.items) (came.same.shows ∙ shows) ∙ may.asked.rising;
     begun = may.begun;
   }
 
-  pub has_come : start.plan ≡ plan_of scene → HasCome run_came now.timelines.items now.plan (taken now.sink.now) now.screens
-  has_come planned = record { planned = came.same.plan ∙ planned; same_timelines = refl; same_sink = refl; same_screens = refl }
+  pub has_come : start.shows.plan ≡ plan_of scene → HasCome run_came now.shows.timelines.items now.shows.plan (taken now.sink.now) now.screens
+  has_come planned = record { planned = ap (λ (s : Shows). s.plan) came.same.shows ∙ planned; same_timelines = refl; same_sink = refl; same_screens = refl }
 
 -- a compositor of the scene that is opened may start
-pub starts_here : {K B : Type 0} {naming : Naming B} {table : TableId} {before after : Option (List ℕ)} {period : ℕ} {order : List Pick} {handler : HandlerOf ReadLeaseOf} {opened : Opened B} (c : Compositor K B naming) (scene : SceneValue)
-    → MayRun table scene before after c.timelines.items c.plan period order handler opened → c.decider.handler ≡ handler → c.vsyncs ≡ 0 → c.due ≡ None → c.fault ≡ None → c.screens ≡ [] → c.period ≡ period
+pub starts_here : {K B : Type 0} {naming : Naming B} {table : TableId} {before after : Option (List ℕ)} {setup : Setup B} {opened : Opened B} (c : Compositor K B naming) (scene : SceneValue)
+    → MayRun table scene before after setup opened → c.shows ≡ setup.shows → c.decider.handler ≡ setup.handler → c.vsyncs ≡ 0 → c.due ≡ None → c.fault ≡ None → c.screens ≡ [] → c.period ≡ setup.period
     → Starts scene c
-starts_here c scene may handler none none_due fine screens period = record {
-  handler = handler ∙ may.handler_is;
-  none_made = none;
-  none_due = none_due;
-  fine = fine;
-  planned = may.planned;
-  screens = screens;
-  period = period ∙ may.same_period;
-  set = record {
-    short = subst (λ (p : ℕ). p ≤ 1000000000) (sym (period ∙ may.same_period)) may.opens.limits.header.high_period;
-    planned = subst IsPlan (sym may.planned) (is_plan scene may.opens.limits);
-    ranges = timelines_within scene c.timelines.items may.opens.limits may.rising;
-  };
-}
+starts_here c scene may shows handler none none_due fine screens period =
+    let planned : c.shows.plan ≡ plan_of scene = ap (λ (s : Shows). s.plan) shows ∙ may.asked.planned in
+    record {
+      handler = handler ∙ may.handler_is;
+      none_made = none;
+      none_due = none_due;
+      fine = fine;
+      planned = planned;
+      screens = screens;
+      period = period ∙ may.same_period;
+      set = record {
+        short = subst (λ (p : ℕ). p ≤ 1000000000) (sym (period ∙ may.same_period)) may.opens.limits.header.high_period;
+        planned = subst IsPlan (sym planned) (is_plan scene may.opens.limits);
+        ranges = timelines_within scene c.shows.timelines.items may.opens.limits (ap (λ (s : Shows). s.timelines.items) shows ∙ may.asked.rising);
+      };
+    }

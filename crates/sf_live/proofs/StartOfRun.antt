@@ -2,15 +2,14 @@
 use Rattle.std.proofs.Common.{◌≡◌, ℕ, List, [], ◌∷◌, Option, ap, ◌∙◌, sym, subst}
 use Rattle.atomic_table.specs.Seated.{TableId}
 use Rattle.sf_live_compositor.specs.sf_commit.Handlers.{HandlerOf, new_handler}
-use Rattle.sf_live_compositor.specs.sf_output_plan.declared.plan.Plan.{Plan}
 use Rattle.sf_script_scene.specs.Limits.{IsWithinLimits, most_layers}
 use Rattle.sf_script_scene.specs.Scene.{SceneValue}
 use Rattle.sf_script_scene.specs.declared.declarations.QueueDecl.{QueueDecl}
 use Rattle.sf_live_compositor.specs.sf_surface.Tokens.{ReadLeaseOf}
 use Rattle.sf_live_compositor.specs.sf_actor_set.Scripts.{AreOfScene}
-use Rattle.sf_live_compositor.specs.law_played.Frames.{plan_of}
 use Rattle.sf_live_compositor.specs.law_played.Played.{opening}
-use Rattle.sf_live_compositor.specs.law_played.Vsyncs.{rising_timelines}
+use Rattle.sf_live_compositor.specs.sf_play_write.Showing.{IsOfScene}
+use Rattle.sf_live_compositor.specs.sf_play_write.declared.shows.Shows.{Shows}
 use Rattle.sf_live_compositor.specs.sf_play_write.Writing.{Writes}
 use Rattle.sf_live.specs.declared.opening.Opened.{Opened}
 use Rattle.sf_live.specs.Openings.{IsOpen}
@@ -26,17 +25,16 @@ of_scene scene inside queues same limits are = record {
   scripts_of = sym (ap (λ (s : SceneValue). s.actors) same);
 }
 
-pub may_run : {B : Type 0} (table : TableId) (scene inside : SceneValue) (before now : Option (List ℕ)) (timelines : List ℕ) (plan : Plan) (most : ℕ) (handler : HandlerOf ReadLeaseOf) (opened : Opened B) → inside ≡ scene
-    → IsOpen scene table opened → handler ≡ new_handler inside.width inside.height most → most ≡ most_layers inside.version → plan ≡ plan_of scene → timelines ≡ rising_timelines scene → Writes before now (opening scene ∷ [])
-    → MayRun table scene before now timelines plan inside.period inside.order handler opened
-may_run table scene inside before now timelines plan most handler opened same opens new limit planned rising begun = record {
+pub may_run : {B : Type 0} (table : TableId) (scene inside : SceneValue) (before now : Option (List ℕ)) (shows : Shows) (most : ℕ) (handler : HandlerOf ReadLeaseOf) (opened : Opened B) → inside ≡ scene
+    → IsOpen scene table opened → handler ≡ new_handler inside.width inside.height most → most ≡ most_layers inside.version → IsOfScene scene shows → Writes before now (opening scene ∷ [])
+    → MayRun table scene before now (record { shows = shows; period = inside.period; order = inside.order; handler = handler }) opened
+may_run table scene inside before now shows most handler opened same opens new limit asked begun = record {
   opens = opens;
   handler_is = new
       ∙ ap (λ (n : ℕ). new_handler inside.width inside.height n) limit
       ∙ (λ i. new_handler (same i).width (same i).height (most_layers (same i).version));
-  planned = planned;
+  asked = asked;
   same_period = ap (λ (s : SceneValue). s.period) same;
   same_order = ap (λ (s : SceneValue). s.order) same;
-  rising = rising;
   begun = begun;
 }

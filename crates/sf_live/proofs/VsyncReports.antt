@@ -15,7 +15,7 @@ use Rattle.sf_live_compositor.specs.sf_play.Showing.{vsync_shown}
 use Rattle.sf_live_compositor.specs.sf_play_write.Vsyncs.{told_with}
 
 -- something is due where a commit was accepted
-shown_done : (commits : List Commit) → list_any is_done (map commit_shown commits) ≡ list_any is_accepted commits
+pub shown_done : (commits : List Commit) → list_any is_done (map commit_shown commits) ≡ list_any is_accepted commits
 shown_done [] = refl
 shown_done (commit ∷ commits) = ap (λ (b : Bool). (commit.cause == 0) || b) (shown_done commits)
 

@@ -9,7 +9,7 @@ mod running;
 mod scene;
 mod threads;
 
-pub use opening::{Opened, open};
+pub use opening::{Opened, Turns, open};
 pub use scene::{live, live_queue};
 pub use sf_live_compositor::{Engine, Workers, permits_for, show_play};
 pub use sf_turns::{Stock, TableName, TurnSeat, open_turns};

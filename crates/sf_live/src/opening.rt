@@ -27,6 +27,13 @@ pub struct Opened<B: TableName> {
     pub first: FirstSeats<B>,
 }
 
+/// The first seat at a table of turns, and its whole stock.
+#[derive(Drop)]
+pub struct Turns {
+    pub seat: TurnSeat<Painted>,
+    pub stock: Stock<Painted>,
+}
+
 /// A desk's queues, arrivals and timelines under locks, with the first seats at them. Senders learn
 /// their places, or send through an intake.
 fn share<B: TableName>(
@@ -57,19 +64,19 @@ pub fn open<B: TableName>(
     queues: &[QueueDecl],
     pictures: Items<Picture>,
     scripts: Items<ActorScript>,
-    seat: TurnSeat<Painted>,
-    stock: Stock<Painted>,
+    turns: Turns,
     tells: bool,
 ) -> Result<Opened<B>, NoMemory>
     requires scene { AreOfScene queues.now pictures scripts }
     requires numbers { All (λ (script : ScriptValue). script.number ≤ 64) scripts }
-    requires own { (seat.table ≡ B.table) × (stock.table ≡ B.table) }
-    requires first { (seat.is_first ≡ true) × (seat.out ≡ 0) }
-    requires whole { stock.buffers ≡ range 0 (permits_of scripts) }
-    ensures opens { (of : AreOfScene queues.now pictures scripts) → seat.leaves ≡ [] → permits_of scripts ≤ B.table.slots → IfOk result (IsOpen of.scene B.table) }
+    requires own { (turns.seat.table ≡ B.table) × (turns.stock.table ≡ B.table) }
+    requires first { (turns.seat.is_first ≡ true) × (turns.seat.out ≡ 0) }
+    requires whole { turns.stock.buffers ≡ range 0 (permits_of scripts) }
+    ensures opens { (of : AreOfScene queues.now pictures scripts) → turns.seat.leaves ≡ [] → permits_of scripts ≤ B.table.slots → IfOk result (IsOpen of.scene B.table) }
     ensures may { IfOk result (MayStart B.table) }
     ensures told { IfOk result (λ opened. tells_of opened.locks ≡ tells) }
 {
+    let Turns { seat, stock } = turns;
     let actor_set = ActorSet::new(alloc, queues, pictures, scripts, seat, stock)?;
     let (pictures, actors, desk) = actor_set.into_parts();
     let (locks, first) = share(alloc, desk, tells)?;

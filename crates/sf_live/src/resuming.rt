@@ -5,10 +5,8 @@ ghost use Rattle.sf_live_compositor.specs.sf_play.Players.{home_in};
 ghost use Rattle.sf_live_compositor.specs.sf_live_seats.Seats.{tells_of};
 ghost use Rattle.sf_live_compositor.specs.sf_live_seats.declared.locks.Locks.{Locks};
 ghost use Rattle.sf_live_compositor.specs.sf_live_threads.Gates.{HavePassed};
-ghost use Rattle.sf_live.specs.inner.Resuming.{GoesFrom};
-ghost use Rattle.sf_live.specs.inner.Rounds.{HasShown};
+ghost use Rattle.sf_live.specs.inner.Resuming.{GoesOnFrom, ShowsJoined};
 ghost use Rattle.sf_live.specs.inner.Threads.{IsTogether, RunOf};
-ghost use Rattle.sf_live_compositor.specs.law_played.Frames.{plan_of};
 
 use crate::threads::Joined;
 use law_live_order::{
@@ -20,6 +18,12 @@ use sf_script_scene::Pick;
 use sf_turns::TableName;
 use std::alloc::Global;
 
+/// A player that goes on with a run, and the gates that its actors passed.
+pub(crate) struct Resumed<B: TableName> {
+    pub(crate) player: Player<B>,
+    pub(crate) gates: Vec<Gates>,
+}
+
 /// A player that goes on with a run whose actors are together again, and the gates that they passed:
 /// what was written so far are the vsyncs that it has shown.
 pub(crate) fn go_on<B: TableName>(
@@ -29,19 +33,18 @@ pub(crate) fn go_on<B: TableName>(
     joined: Joined<B>,
     handler: Handler<ReadLease<B>>,
     vsyncs: u32,
-) -> (Player<B>, Vec<Gates>)
+) -> Resumed<B>
     requires goes { (run : RunOf B) × (locks : Locks B) × (start : Option (List ℕ))
-        × (IsTogether ⟦<ReadLease<B> as Lease>⟧ B.table run locks joined × GoesFrom run start period order handler vsyncs) }
-    ensures shown { (run : RunOf B) (locks : Locks B) (start : Option (List ℕ)) → IsTogether ⟦<ReadLease<B> as Lease>⟧ B.table run locks joined
-        → GoesFrom run start period order handler vsyncs → HasShown B.table run.scene (plan_of run.scene) run.timelines start run.now run.screens result.0 }
+        × GoesOnFrom ⟦<ReadLease<B> as Lease>⟧ B.table run locks start joined period order handler vsyncs }
+    ensures shown { ShowsJoined ⟦<ReadLease<B> as Lease>⟧ B.table joined period order handler vsyncs result.player }
     ensures told { (run : RunOf B) (locks : Locks B) → IsTogether ⟦<ReadLease<B> as Lease>⟧ B.table run locks joined
-        → (home_in result.0.play).tells ≡ tells_of locks }
-    ensures gates { HavePassed result.0.play.actor_set.actors result.1.items }
+        → (home_in result.player.play).tells ≡ tells_of locks }
+    ensures gates { HavePassed result.player.play.actor_set.actors result.gates.items }
 {
     a_run_in_threads_goes_on::<B>();
     buffers_among_threads_have_their_pictures::<B>();
     what_threads_did_is_played::<B>();
     let Joined { actor_set, gates } = joined;
     let player = Player::resume(alloc, period, order, actor_set, handler, vsyncs);
-    (player, gates)
+    Resumed { player, gates }
 }

@@ -1,26 +1,36 @@
 //! The end of a live run, on one thread: rounds up to the first in which nothing is done, with a
 //! gate before each step, then the replies to all steps and the records that end the run.
 ghost use Rattle.std.specs.Prelude.{◌≡◌, ◌<◌, ◌≤◌, ◌++◌, ℕ, true, All, IfOk, IsErrOf, List, OnErr, OnOk, Option, length, map};
-ghost use Rattle.sf_live_compositor.specs.sf_actor.Scripts.{picture_at};
 ghost use Rattle.sf_io.specs.Causes.{Rose};
-ghost use Rattle.sf_live.specs.inner.Rounds.{HasShown, HasShownAll, MayWriteAction, PassesFor, ShowsOn, all_reply_records, action_written};
-ghost use Rattle.sf_live.specs.Runs.{WroteLive};
+ghost use Rattle.sf_live.specs.inner.Rounds.{
+  CutsAction,
+  CutsRounds,
+  CutsRun,
+  HasShownBy,
+  MayWriteAction,
+  PassesFor,
+  ShowsNext,
+  ShowsRounds,
+  WritesAction,
+  WritesRun,
+  all_reply_records,
+};
 ghost use Rattle.sf_live_compositor.specs.sf_play.Going.{fuel_of};
 ghost use Rattle.sf_live_compositor.specs.sf_play.Players.{home_in};
 ghost use Rattle.sf_live_compositor.specs.sf_play.Actions.{next_tried};
 ghost use Rattle.sf_live_compositor.specs.sf_record.declared.record.Record.TheVariants as rec;
 ghost use Rattle.sf_live_compositor.specs.law_played.Replies.{reply_shown};
 ghost use Rattle.sf_script_scene.specs.Scene.{SceneValue};
-ghost use Rattle.sf_live_compositor.specs.sf_output_screen.ScreenLists.{AreShown};
 ghost use Rattle.sf_live_compositor.specs.sf_play_write.Closings.{closing_of};
-ghost use Rattle.sf_live_compositor.specs.sf_play_write.Writing.{CutSome, Writes, WritesPart};
+ghost use Rattle.sf_live_compositor.specs.sf_play_write.Showing.{written_at};
+ghost use Rattle.sf_live_compositor.specs.sf_play_write.Writing.{Writes, WritesPart};
 ghost use Rattle.sf_live_compositor.specs.sf_actor_steps.declared.actor.Actor.{Actor as ActorIn};
 ghost use Rattle.sf_live_compositor.specs.sf_live_threads.Gates.{HavePassed};
 
 use sf_io::{Gate, Sink};
 use sf_live_compositor::{
-    Action, Actor, Engine, Gates, Plan, Player, Reply, RunFault, Screens, reply_record, show_vsync,
-    write_closing, write_made,
+    Action, Actor, Engine, Gates, Player, Reply, RunFault, Screens, Shows, reply_record,
+    show_vsync, write_closing, write_made,
 };
 use sf_turns::TableName;
 use std::alloc::Global;
@@ -48,19 +58,15 @@ fn pass_gate<R: Wait, G: Gate, B: TableName>(
 fn write_action<R: Threads + Sync, K: Sink, B: TableName>(
     engine: &Engine<R>,
     sink: &mut K,
-    timelines: &[u32],
-    plan: &Plan,
+    shows: &Shows,
     screens: &mut Screens,
     player: &Player<B>,
     action: Action,
 ) -> Result<(), RunFault>
-    requires timelines { All (λ timeline. (1 ≤ timeline) × (timeline ≤ 64)) timelines.now }
-    requires may { (scene : SceneValue) × MayWriteAction scene plan.now action player.now }
-    ensures ok { (scene : SceneValue) → MayWriteAction scene plan.now action player.now → AreShown (picture_at scene.pictures) screens.old → OnOk result
-        (Writes (K.taken sink.old) (K.taken sink.new) (action_written (picture_at scene.pictures) plan.now timelines.now player.now action)
-        × AreShown (picture_at scene.pictures) screens.new) }
-    ensures err { (scene : SceneValue) → MayWriteAction scene plan.now action player.now → AreShown (picture_at scene.pictures) screens.old → OnErr result
-        (WritesPart (K.taken sink.old) (K.taken sink.new) (action_written (picture_at scene.pictures) plan.now timelines.now player.now action)) }
+    requires timelines { All (λ timeline. (1 ≤ timeline) × (timeline ≤ 64)) shows.now.timelines.items }
+    requires may { (scene : SceneValue) × MayWriteAction scene shows.now.plan action player.now }
+    ensures ok { WritesAction shows.now player.now action (K.taken sink.old) (K.taken sink.new) screens.old screens.new result }
+    ensures err { CutsAction shows.now player.now action (K.taken sink.old) (K.taken sink.new) screens.old result }
     ensures later { K.faults sink.old ≤ K.faults sink.new }
     ensures failed { IsErrOf result RunFault.WriteFault → Rose (K.faults sink.old) (K.faults sink.new) }
 {
@@ -68,8 +74,7 @@ fn write_action<R: Threads + Sync, K: Sink, B: TableName>(
         Action::Vsync(report) => show_vsync(
             engine,
             sink,
-            timelines,
-            plan,
+            shows,
             screens,
             player.handler(),
             report.into_report(),
@@ -83,19 +88,16 @@ fn write_action<R: Threads + Sync, K: Sink, B: TableName>(
 fn show_action<R: Threads + Wait + Sync, K: Sink, G: Gate, B: TableName>(
     engine: &Engine<R>,
     sink: &mut K,
-    timelines: &[u32],
-    plan: &Plan,
+    shows: &Shows,
     screens: &mut Screens,
     gate: &G,
     gates: &mut [Gates],
     player: &mut Player<B>,
 ) -> Result<bool, RunFault>
     requires gates { HavePassed player.old.play.actor_set.actors gates.old }
-    requires shown { (scene : SceneValue) × (start : Option (List ℕ)) × HasShown B.table scene plan.now timelines.now start (K.taken sink.old) screens.old player.old }
-    ensures on { (scene : SceneValue) (start : Option (List ℕ)) → HasShown B.table scene plan.now timelines.now start (K.taken sink.old) screens.old player.old
-        → IfOk result (λ goes_on. ShowsOn goes_on B.table scene plan.now timelines.now start (K.taken sink.new) screens.new player.new) }
-    ensures err { (scene : SceneValue) (start : Option (List ℕ)) → HasShown B.table scene plan.now timelines.now start (K.taken sink.old) screens.old player.old
-        → OnErr result (CutSome start (K.taken sink.new)) }
+    requires shown { (scene : SceneValue) × (start : Option (List ℕ)) × HasShownBy B.table scene shows.now start (written_at (K.taken sink.old) screens.old player.old) }
+    ensures on { ShowsNext B.table shows.now (written_at (K.taken sink.old) screens.old player.old) (written_at (K.taken sink.new) screens.new player.new) result }
+    ensures err { CutsRounds B.table shows.now (written_at (K.taken sink.old) screens.old player.old) (K.taken sink.new) result }
     ensures gates { IfOk result (λ _. HavePassed player.new.play.actor_set.actors gates.new) }
     ensures less { IfOk result (λ goes_on. goes_on ≡ true → fuel_of player.new < fuel_of player.old) }
     ensures told { IfOk result (λ _. (home_in player.new.play).tells ≡ (home_in player.old.play).tells) }
@@ -108,7 +110,7 @@ fn show_action<R: Threads + Wait + Sync, K: Sink, G: Gate, B: TableName>(
         Err(_) => return Err(RunFault::NoMemory),
     };
     let goes_on = !action.is_end();
-    match write_action(engine, sink, timelines, plan, screens, player, action) {
+    match write_action(engine, sink, shows, screens, player, action) {
         Ok(()) => Ok(goes_on),
         Err(fault) => Err(fault),
     }
@@ -118,25 +120,22 @@ fn show_action<R: Threads + Wait + Sync, K: Sink, G: Gate, B: TableName>(
 fn show_rounds<R: Threads + Wait + Sync, K: Sink, G: Gate, B: TableName>(
     engine: &Engine<R>,
     sink: &mut K,
-    timelines: &[u32],
-    plan: &Plan,
+    shows: &Shows,
     screens: &mut Screens,
     gate: &G,
     gates: &mut [Gates],
     player: &mut Player<B>,
 ) -> Result<(), RunFault>
     requires gates { HavePassed player.old.play.actor_set.actors gates.old }
-    requires shown { (scene : SceneValue) × (start : Option (List ℕ)) × HasShown B.table scene plan.now timelines.now start (K.taken sink.old) screens.old player.old }
-    ensures ok { (scene : SceneValue) (start : Option (List ℕ)) → HasShown B.table scene plan.now timelines.now start (K.taken sink.old) screens.old player.old
-        → OnOk result (HasShownAll B.table scene start (K.taken sink.new) player.new) }
+    requires shown { (scene : SceneValue) × (start : Option (List ℕ)) × HasShownBy B.table scene shows.now start (written_at (K.taken sink.old) screens.old player.old) }
+    ensures ok { ShowsRounds B.table shows.now (written_at (K.taken sink.old) screens.old player.old) (K.taken sink.new) player.new result }
     ensures told { OnOk result ((home_in player.new.play).tells ≡ (home_in player.old.play).tells) }
-    ensures err { (scene : SceneValue) (start : Option (List ℕ)) → HasShown B.table scene plan.now timelines.now start (K.taken sink.old) screens.old player.old
-        → OnErr result (CutSome start (K.taken sink.new)) }
+    ensures err { CutsRounds B.table shows.now (written_at (K.taken sink.old) screens.old player.old) (K.taken sink.new) result }
     ensures later { K.faults sink.old ≤ K.faults sink.new }
     ensures failed { IsErrOf result RunFault.WriteFault → Rose (K.faults sink.old) (K.faults sink.new) }
 {
     'actions: loop {
-        match show_action(engine, sink, timelines, plan, screens, gate, gates, player) {
+        match show_action(engine, sink, shows, screens, gate, gates, player) {
             Ok(true) => {}
             Ok(false) => return Ok(()),
             Err(fault) => return Err(fault),
@@ -202,27 +201,24 @@ fn write_rest<K: Sink, B: TableName>(
 /// Does the rounds of a run that a player goes on with, up to its end. Each vsync is written as it
 /// comes, behind those that were written before; behind the last one come the replies to all steps,
 /// by actor and step, and the records that end the run. After a fault of the sink, or running out
-/// of memory, the sink has a prefix of some records.
+/// of memory, the sink has a prefix of these.
 pub(crate) fn write_rounds<R: Threads + Wait + Sync, K: Sink, G: Gate, B: TableName>(
     engine: &Engine<R>,
     sink: &mut K,
-    timelines: &[u32],
-    plan: &Plan,
+    shows: &Shows,
     screens: &mut Screens,
     gate: &G,
     gates: &mut [Gates],
     player: &mut Player<B>,
 ) -> Result<(), RunFault>
     requires gates { HavePassed player.old.play.actor_set.actors gates.old }
-    requires shown { (scene : SceneValue) × (start : Option (List ℕ)) × HasShown B.table scene plan.now timelines.now start (K.taken sink.old) screens.old player.old }
-    ensures ok { (scene : SceneValue) (start : Option (List ℕ)) → HasShown B.table scene plan.now timelines.now start (K.taken sink.old) screens.old player.old
-        → OnOk result (WroteLive (home_in player.old.play).tells scene start (K.taken sink.new)) }
-    ensures err { (scene : SceneValue) (start : Option (List ℕ)) → HasShown B.table scene plan.now timelines.now start (K.taken sink.old) screens.old player.old
-        → OnErr result (CutSome start (K.taken sink.new)) }
+    requires shown { (scene : SceneValue) × (start : Option (List ℕ)) × HasShownBy B.table scene shows.now start (written_at (K.taken sink.old) screens.old player.old) }
+    ensures ok { WritesRun B.table shows.now (written_at (K.taken sink.old) screens.old player.old) (K.taken sink.new) result }
+    ensures err { CutsRun B.table shows.now (written_at (K.taken sink.old) screens.old player.old) (K.taken sink.new) result }
     ensures later { K.faults sink.old ≤ K.faults sink.new }
     ensures failed { IsErrOf result RunFault.WriteFault → Rose (K.faults sink.old) (K.faults sink.new) }
 {
-    match show_rounds(engine, sink, timelines, plan, screens, gate, gates, player) {
+    match show_rounds(engine, sink, shows, screens, gate, gates, player) {
         Ok(()) => {}
         Err(fault) => return Err(fault),
     }

@@ -1,16 +1,18 @@
 //! The middle of a live run: each actor in a thread of its own, the compositor beside them, up to
 //! where no thread can go on.
-ghost use Rattle.std.specs.Prelude.{◌≡◌, Some, IfErr, IfOk};
+ghost use Rattle.std.specs.Prelude.{◌≡◌, Some, IfErr};
 ghost use Rattle.sf_live_compositor.specs.sf_record.declared.encode.RunFault.TheVariants.{WriteFault};
 ghost use Rattle.sf_script_scene.specs.Scene.{SceneValue};
 ghost use Rattle.sf_live_compositor.specs.sf_live_threads.declared.run.Stopped.TheVariants as stopped;
 ghost use Rattle.sf_live.specs.Openings.{IsOpen, MayStart};
-ghost use Rattle.sf_live.specs.inner.Running.{CameTogether, Starts, WasCut};
+ghost use Rattle.sf_live.specs.inner.Running.{ComesTogether, Starts, WasCut};
 
 use crate::opening::Opened;
 use crate::threads::{Joined, bring_together};
 use sf_io::{Gate, Sink};
-use sf_live_compositor::{Compositor, Ended, Lease, ReadLease, RunFault, Stopped, run_actors};
+use sf_live_compositor::{
+    Compositor, Ended, Host, Lease, ReadLease, RunFault, Stopped, run_actors,
+};
 use sf_turns::TableName;
 use std::alloc::Global;
 use std::sync::Wait;
@@ -45,9 +47,8 @@ pub(crate) fn run_threads<
 ) -> (Compositor<'a, K, B>, Result<Joined<B>, RunFault>)
     requires may { MayStart B.table opened }
     requires starts { (scene : SceneValue) × IsOpen scene B.table opened × Starts scene compositor }
-    ensures together { (scene : SceneValue) → IsOpen scene B.table opened → Starts scene compositor.entry
-        → IfOk result.1 (CameTogether K.taken K.faults ⟦<ReadLease<B> as Lease>⟧ B.table scene opened.locks compositor.entry result.0) }
-    ensures cut { IfErr result.1 (WasCut K.taken K.faults compositor.entry result.0) }
+    ensures together { ComesTogether K.taken K.faults ⟦<ReadLease<B> as Lease>⟧ B.table opened compositor.entry result.0 result.1 }
+    ensures cut { IfErr result.1 (WasCut K.taken K.faults ⟦<ReadLease<B> as Lease>⟧ B.table compositor.entry result.0) }
 {
     let Opened {
         pictures,
@@ -55,12 +56,11 @@ pub(crate) fn run_threads<
         locks,
         first,
     } = opened;
+    let host = Host { rt, alloc, gate };
     let (mut compositor, all_returned) = run_actors(
-        rt,
-        alloc,
+        host,
         &locks,
         pictures.as_slice(),
-        gate,
         first,
         actors,
         compositor,

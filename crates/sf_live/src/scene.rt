@@ -1,28 +1,24 @@
 //! A whole live run: it is opened, its threads run and are joined, and rounds end it. `live` and
 //! `live_queue` are what `sf_app` calls; they differ in how transactions arrive.
-ghost use Rattle.std.specs.Prelude.{◌≡◌, ℕ, List, [], ◌∷◌, true, false, Option};
+ghost use Rattle.std.specs.Prelude.{ℕ, List, [], ◌∷◌, true, false, Option};
 ghost use Rattle.sf_live_compositor.specs.law_played.Played.{opening};
-ghost use Rattle.sf_live_compositor.specs.law_played.Vsyncs.{rising_timelines};
 ghost use Rattle.sf_script_scene.specs.Scene.{SceneValue};
+ghost use Rattle.sf_live_compositor.specs.sf_play_write.Showing.{written_at};
 ghost use Rattle.sf_live_compositor.specs.sf_play_write.Writing.{Writes};
-ghost use Rattle.sf_live_compositor.specs.sf_live_seats.Seats.{tells_of};
-ghost use Rattle.sf_live_compositor.specs.sf_live_seats.declared.locks.Locks.{Locks};
+ghost use Rattle.sf_live_compositor.specs.sf_live_threads.Gates.{HavePassed};
 ghost use Rattle.sf_live.specs.Openings.{MayStart};
-ghost use Rattle.sf_live.specs.inner.Resuming.{GoesFrom, HasCome};
-ghost use Rattle.sf_live.specs.inner.Running.{MayRun};
+ghost use Rattle.sf_live.specs.inner.Rounds.{EndsShown, HasShownBy};
+ghost use Rattle.sf_live.specs.inner.Running.{EndsOpened, MayRun};
 ghost use Rattle.sf_live.specs.Runs.{LiveEnded, MayLive};
-ghost use Rattle.sf_live.specs.inner.Threads.{IsTogether, RunOf};
 
-use crate::opening::{Opened, open};
-use crate::resuming::go_on;
+use crate::opening::{Opened, Turns, open};
+use crate::resuming::{Resumed, go_on};
 use crate::rounds::write_rounds;
 use crate::running::run_threads;
-use crate::threads::Joined;
 use sf_base::Items;
 use sf_io::{Gate, Sink};
 use sf_live_compositor::{
-    Compositor, Decider, Engine, Handler, Lease, Plan, ReadLease, RunFault, Screens, opening,
-    plan_of, rising_timelines, write_made,
+    Compositor, Decider, Engine, Handler, ReadLease, RunFault, Screens, Shows, opening, write_made,
 };
 use sf_picture::Painted;
 use sf_script_scene::{Pick, Scene, most_layers};
@@ -30,34 +26,40 @@ use sf_turns::{Stock, TableName, TurnSeat};
 use std::sync::Wait;
 use std::thread::Threads;
 
+/// What a live run goes by besides its actors.
+pub(crate) struct Setup<B: TableName> {
+    /// What its vsyncs show.
+    pub(crate) shows: Shows,
+    /// Between two vsyncs, in nanoseconds.
+    pub(crate) period: u64,
+    /// The scene's order, which a live run does not follow.
+    pub(crate) order: Items<Pick>,
+    /// What decides in its vsyncs.
+    pub(crate) handler: Handler<ReadLease<B>>,
+}
+
 /// Goes on by rounds with a run whose actors are together again, up to its end.
 fn run_rounds<R: Threads + Wait + Sync, K: Sink, G: Gate, B: TableName>(
     engine: &Engine<R>,
     sink: &mut K,
     gate: &G,
-    timelines: Vec<u32>,
-    plan: Plan,
+    shows: &Shows,
     screens: Screens,
-    period: u64,
-    order: Items<Pick>,
-    joined: Joined<B>,
-    decider: Decider<B>,
-    vsyncs: u32,
+    resumed: Resumed<B>,
 ) -> Result<(), RunFault>
-    requires goes { (run : RunOf B) × (locks : Locks B) × (start : Option (List ℕ)) × (IsTogether ⟦<ReadLease<B> as Lease>⟧ B.table run locks joined
-        × GoesFrom run start period order decider.handler vsyncs × HasCome run timelines.items plan (K.taken sink.old) screens) }
-    ensures { (run : RunOf B) (locks : Locks B) (start : Option (List ℕ)) → IsTogether ⟦<ReadLease<B> as Lease>⟧ B.table run locks joined
-        → GoesFrom run start period order decider.handler vsyncs → HasCome run timelines.items plan (K.taken sink.old) screens
-        → LiveEnded (tells_of locks) run.scene result start (K.taken sink.new) (K.faults sink.old) (K.faults sink.new) }
+    requires gates { HavePassed resumed.player.play.actor_set.actors resumed.gates.items }
+    requires shown { (scene : SceneValue) × (start : Option (List ℕ)) × HasShownBy B.table scene shows.now start (written_at (K.taken sink.old) screens resumed.player) }
+    ensures { EndsShown B.table shows.now (written_at (K.taken sink.old) screens resumed.player) result
+        (K.taken sink.new) (K.faults sink.old) (K.faults sink.new) }
 {
     let mut screens = screens;
-    let handler = decider.into_handler();
-    let (mut player, mut gates) = go_on(engine.alloc, period, order, joined, handler, vsyncs);
+    let Resumed { player, gates } = resumed;
+    let mut player = player;
+    let mut gates = gates;
     let written = write_rounds(
         engine,
         sink,
-        &timelines,
-        &plan,
+        shows,
         &mut screens,
         gate,
         &mut gates,
@@ -72,25 +74,25 @@ fn run_opened<R: Threads + Wait + Sync, K: Sink, G: Gate + Sync, B: TableName + 
     engine: &Engine<R>,
     sink: &mut K,
     gate: &G,
-    timelines: Vec<u32>,
-    plan: Plan,
-    period: u64,
-    order: Items<Pick>,
-    handler: Handler<ReadLease<B>>,
+    setup: Setup<B>,
     opened: Opened<B>,
 ) -> Result<(), RunFault>
     requires may { MayStart B.table opened }
-    requires starts { (scene : SceneValue) × (start : Option (List ℕ)) × MayRun B.table scene start (K.taken sink.old) timelines.items plan period order handler opened }
-    ensures { (scene : SceneValue) (start : Option (List ℕ)) → MayRun B.table scene start (K.taken sink.old) timelines.items plan period order handler opened
-        → LiveEnded (tells_of opened.locks) scene result start (K.taken sink.new) (K.faults sink.old) (K.faults sink.new) }
+    requires starts { (scene : SceneValue) × (start : Option (List ℕ)) × MayRun B.table scene start (K.taken sink.old) setup opened }
+    ensures { EndsOpened B.table setup opened result (K.taken sink.old) (K.taken sink.new) (K.faults sink.old) (K.faults sink.new) }
 {
+    let Setup {
+        shows,
+        period,
+        order,
+        handler,
+    } = setup;
     let compositor = Compositor {
         alloc: engine.alloc,
         workers: engine.workers,
         period,
-        timelines,
+        shows,
         sink,
-        plan,
         screens: Screens::new(engine.alloc),
         due: None,
         decider: Decider { handler },
@@ -102,9 +104,8 @@ fn run_opened<R: Threads + Wait + Sync, K: Sink, G: Gate + Sync, B: TableName + 
         alloc: _,
         workers: _,
         period: _,
-        timelines,
+        shows,
         sink,
-        plan,
         screens,
         due,
         decider,
@@ -113,31 +114,30 @@ fn run_opened<R: Threads + Wait + Sync, K: Sink, G: Gate + Sync, B: TableName + 
     } = compositor;
     drop(due);
     match joined {
-        Ok(joined) => run_rounds(
-            engine, sink, gate, timelines, plan, screens, period, order, joined, decider, vsyncs,
-        ),
+        Ok(joined) => {
+            let handler = decider.into_handler();
+            let resumed = go_on(engine.alloc, period, order, joined, handler, vsyncs);
+            run_rounds(engine, sink, gate, &shows, screens, resumed)
+        }
         Err(fault) => Err(fault),
     }
 }
 
-/// Runs a scene whose first record is written, with its timelines by rising number.
+/// Runs a scene whose first record is written.
 fn run_scene<R: Threads + Wait + Sync, K: Sink, G: Gate + Sync, B: TableName + Send + Sync>(
     engine: &Engine<R>,
     sink: &mut K,
     gate: &G,
-    timelines: Vec<u32>,
     scene: Scene,
-    seat: TurnSeat<Painted>,
-    stock: Stock<Painted>,
+    turns: Turns,
     tells: bool,
 ) -> Result<(), RunFault>
-    requires may { MayLive B.table scene seat stock }
-    requires rising { timelines.items ≡ rising_timelines scene }
+    requires may { MayLive B.table scene turns.seat turns.stock }
     requires begun { (start : Option (List ℕ)) × Writes start (K.taken sink.old) (opening scene ∷ []) }
     ensures { (start : Option (List ℕ)) → Writes start (K.taken sink.old) (opening scene ∷ [])
         → LiveEnded tells scene result start (K.taken sink.new) (K.faults sink.old) (K.faults sink.new) }
 {
-    let Ok(plan) = plan_of(engine.alloc, &scene) else {
+    let Ok(shows) = Shows::of_scene(engine.alloc, &scene) else {
         return Err(RunFault::NoMemory);
     };
     let Scene {
@@ -156,8 +156,7 @@ fn run_scene<R: Threads + Wait + Sync, K: Sink, G: Gate + Sync, B: TableName + S
         queues.as_slice(),
         pictures,
         actors,
-        seat,
-        stock,
+        turns,
         tells,
     ) else {
         return Err(RunFault::NoMemory);
@@ -170,9 +169,13 @@ fn run_scene<R: Threads + Wait + Sync, K: Sink, G: Gate + Sync, B: TableName + S
     ) else {
         return Err(RunFault::NoMemory);
     };
-    run_opened(
-        engine, sink, gate, timelines, plan, period, order, handler, opened,
-    )
+    let setup = Setup {
+        shows,
+        period,
+        order,
+        handler,
+    };
+    run_opened(engine, sink, gate, setup, opened)
 }
 
 /// Runs a scene live, where senders learn their places, or send through an intake.
@@ -181,29 +184,25 @@ fn live_by<R: Threads + Wait + Sync, K: Sink, G: Gate + Sync, B: TableName + Sen
     sink: &mut K,
     gate: &G,
     scene: Scene,
-    seat: TurnSeat<Painted>,
-    stock: Stock<Painted>,
+    turns: Turns,
     tells: bool,
 ) -> Result<(), RunFault>
-    requires { MayLive B.table scene seat stock }
+    requires { MayLive B.table scene turns.seat turns.stock }
     ensures { LiveEnded tells scene result (K.taken sink.old) (K.taken sink.new) (K.faults sink.old) (K.faults sink.new) }
 {
-    let Ok(timelines) = rising_timelines(engine.alloc, scene.timelines.as_slice()) else {
-        return Err(RunFault::NoMemory);
-    };
     match write_made(engine.alloc, sink, Ok(opening(&scene))) {
         Ok(()) => {}
         Err(fault) => return Err(fault),
     }
-    run_scene::<R, K, G, B>(engine, sink, gate, timelines, scene, seat, stock, tells)
+    run_scene::<R, K, G, B>(engine, sink, gate, scene, turns, tells)
 }
 
 /// Runs a scene with each actor in a thread of its own, over buffers of the table that B names, and
 /// writes the records of the run: those of vsyncs as they come, and behind them the replies, by
 /// actor and step. The gate is passed once for each step, before its first try. The workers of the
 /// engine compose each frame. It takes the seat and the whole stock of the turns, with a permit for
-/// each dequeue. After a fault of the sink, or running out of memory, the sink has whole records
-/// and then at most one that is cut.
+/// each dequeue. After a fault of the sink, or running out of memory, the sink has a prefix of the
+/// scene's record and whole vsyncs, or, once all vsyncs are written, of all records of the run.
 pub fn live<R: Threads + Wait + Sync, K: Sink, G: Gate + Sync, B: TableName + Send + Sync>(
     engine: &Engine<R>,
     sink: &mut K,
@@ -215,7 +214,7 @@ pub fn live<R: Threads + Wait + Sync, K: Sink, G: Gate + Sync, B: TableName + Se
     requires { MayLive B.table scene seat stock }
     ensures { LiveEnded true scene result (K.taken sink.old) (K.taken sink.new) (K.faults sink.old) (K.faults sink.new) }
 {
-    live_by::<R, K, G, B>(engine, sink, gate, scene, seat, stock, true)
+    live_by::<R, K, G, B>(engine, sink, gate, scene, Turns { seat, stock }, true)
 }
 
 /// The same, where transactions arrive through a queue that takes them without a lock: their sender
@@ -231,5 +230,5 @@ pub fn live_queue<R: Threads + Wait + Sync, K: Sink, G: Gate + Sync, B: TableNam
     requires { MayLive B.table scene seat stock }
     ensures { LiveEnded false scene result (K.taken sink.old) (K.taken sink.new) (K.faults sink.old) (K.faults sink.new) }
 {
-    live_by::<R, K, G, B>(engine, sink, gate, scene, seat, stock, false)
+    live_by::<R, K, G, B>(engine, sink, gate, scene, Turns { seat, stock }, false)
 }

@@ -17,9 +17,10 @@ use Rattle.sf_live_threads.specs.sf_txn.declared.lease.Lease.{Ghosts}
 use Rattle.sf_live_threads.specs.sf_actor.Plain.{taken_in}
 use Rattle.sf_live_threads.specs.sf_live_seats.declared.locks.Locks.{Locks}
 use Rattle.sf_play_write.specs.sf_play.Playing.{expected_by}
-use Rattle.sf_play_write.specs.Vsyncs.{vsync_shown}
+use Rattle.sf_play_write.specs.Vsyncs.{WritesVsync, vsync_shown}
 use Rattle.sf_play_write.specs.Writing.{Writes}
-use Rattle.sf_live_compositor.specs.Sitting.{HasAll, MakesVsync, MaySit, ShowsBuffers, ShowsVsync}
+use Rattle.sf_play_write.specs.declared.shows.Shows.{Shows}
+use Rattle.sf_live_compositor.specs.Sitting.{HasAll, MakesVsync, MayMake, MayShowNext, MaySit, ShowsBuffers, ShowsVsync}
 use Rattle.sf_live_compositor.specs.Vsyncs.{Sitting}
 use Rattle.sf_live_compositor.proofs.Limits.{limit_stays}
 
@@ -29,6 +30,12 @@ if_ok {T} {E} result value P is all = subst (λ (r : Result T E). IfOk r P) is a
 
 pub on_ok : {T E X : Type 0} (result : Result T E) (value : T) → result ≡ Ok value → OnOk result X → X
 on_ok {T} {E} {X} result value is fact = subst (λ (r : Result T E). OnOk r X) is fact
+
+-- the next vsync may be made
+pub may_make : {B : Type 0} (table : TableId) (locks : Locks B) (period : ℕ) (shows : Shows) (sitting : Sitting B) → MayShowNext table locks period shows sitting → MayMake table locks period sitting
+may_make table locks period shows sitting next =
+    let early = next.early in
+    record { own = next.own; first = next.first; known = next.may.known; short = next.set.short; few = omega (arith, early); early = next.may.early }
 
 module _ {B : Type 0} (lease : Ghosts ReadLeaseOf SeatView ReadLeaseOf Issued) (table : TableId) (locks : Locks B) (period : ℕ) where
   abbrev Makes : Sitting B → Sitting B → VsyncReport → Type 0
@@ -73,10 +80,12 @@ module _ {B : Type 0} (lease : Ghosts ReadLeaseOf SeatView ReadLeaseOf Issued) (
   pub shows_it : (plan : Plan) (timelines : List ℕ) (before now : Option (List ℕ)) (screens shown : List OutputScreen) (old new : Sitting B) (report : VsyncReport) → Makes old new report
       → ((pictures : ℕ → Picture) → AreExpected expected_by pictures new.handler → AreShown pictures screens
       → Writes before now (vsync_shown pictures plan timelines report new.handler.tree.layers) × AreShown pictures shown)
+      → WritesVsync plan timelines new.handler.tree.layers report before now
       → ShowsVsync lease table locks period plan timelines before now screens shown old new
-  shows_it plan timelines before now screens shown old new report makes written = record {
+  shows_it plan timelines before now screens shown old new report makes written told = record {
     vsync = makes.vsync;
     written = λ pictures expected was.
         let both = written pictures expected was in
         (subst (λ (r : VsyncReport). Writes before now (vsync_shown pictures plan timelines r new.handler.tree.layers)) (sym makes.is) both.0, both.1);
+    told = subst (λ (r : VsyncReport). WritesVsync plan timelines new.handler.tree.layers r before now) (sym makes.is) told;
   }

@@ -57,6 +57,7 @@ module _ {B : Type 0} (lease : Ghosts ReadLeaseOf SeatView ReadLeaseOf Issued) (
                   (writes_more before now later (records_shown pictures plan timelines told) (one_shown pictures plan timelines one) was.0 then.0),
               then.1,
             );
+        told = (now, sits.told, shows.told);
       }
 
 -- of the same timelines

@@ -1,5 +1,5 @@
 -- What a compositor keeps while actors run in threads: the log of its vsyncs, and what was written of them.
-use Rattle.std.specs.Prelude.{All, ◌≡◌, ℕ, ◌≤◌, false, List, [], ◌∷◌, ◌++◌, map, Option, Some, None, Result, IfOk, OnOk}
+use Rattle.std.specs.Prelude.{All, ◌≡◌, ℕ, ◌<◌, ◌≤◌, false, List, [], ◌∷◌, ◌++◌, map, Option, Some, None, Result, IfOk, OnOk}
 use Rattle.std.specs.List.{flat_map}
 use Rattle.atomic_table.specs.Seated.{TableId}
 use Rattle.sf_base.specs.declared.memory.NoMemory.{NoMemory}
@@ -27,7 +27,8 @@ use Rattle.sf_live_threads.specs.sf_live_seats.Observers.{SeatGoesOn}
 use Rattle.sf_live_threads.specs.sf_live_seats.First.{KnowsNothing}
 use Rattle.sf_live_threads.specs.sf_live_seats.Seats.{AreSeats}
 use Rattle.sf_play_write.specs.sf_play.Playing.{expected_by}
-use Rattle.sf_play_write.specs.Vsyncs.{KeepsShown, vsync_shown}
+use Rattle.sf_play_write.specs.declared.shows.Shows.{Shows as ShownIn}
+use Rattle.sf_play_write.specs.Vsyncs.{CutsVsync, KeepsShown, WritesVsync, vsync_shown}
 use Rattle.sf_play_write.specs.Writing.{Writes}
 use Rattle.sf_live_compositor.specs.declared.vsync.MadeVsync.{MadeVsync}
 use Rattle.sf_live_compositor.specs.Vsyncs.{Begin, IsVsync, More, Sitting, Vsyncs}
@@ -74,6 +75,20 @@ module _ {B : Type 0} (lease : Ghosts ReadLeaseOf SeatView ReadLeaseOf Issued) (
   showings_of Begin = []
   showings_of (More log vsync) = showings_of log ++ showing_of vsync ∷ []
 
+  -- The records of the vsyncs of a log were written, one after another, whichever pixels their images have.
+  abbrev pub WritesLog : Plan → List ℕ → {start last : Sitting B} → Vsyncs lease table locks period start last → Option (List ℕ) → Option (List ℕ) → Type 0
+  WritesLog plan timelines Begin before now = now ≡ before
+  WritesLog plan timelines (More {after} log vsync) before now =
+      (then : Option (List ℕ)) × WritesLog plan timelines log before then
+      × WritesVsync plan timelines after.handler.tree.layers (showing_of vsync).report then now
+
+  -- a prefix of them was written, of which only the last one's may be missing
+  abbrev pub CutsLog : Plan → List ℕ → {start last : Sitting B} → Vsyncs lease table locks period start last → Option (List ℕ) → Option (List ℕ) → Type 0
+  CutsLog plan timelines Begin before now = now ≡ before
+  CutsLog plan timelines (More {after} log vsync) before now =
+      (then : Option (List ℕ)) × WritesLog plan timelines log before then
+      × CutsVsync plan timelines after.handler.tree.layers (showing_of vsync).report then now
+
   -- a compositor that has made no vsync, for so many layers, with seats that know of no call, and signalled nothing and left no turn
   pub record IsFresh (plan : Plan) (most : ℕ) (start : Sitting B) : Type 0 where
     pub handler : start.handler ≡ new_handler plan.width plan.height most
@@ -87,6 +102,7 @@ module _ {B : Type 0} (lease : Ghosts ReadLeaseOf SeatView ReadLeaseOf Issued) (
     pub vsync : IsVsync lease table locks period old new
     pub written : (pictures : ℕ → Picture) → AreExpected expected_by pictures new.handler → AreShown pictures screens
         → Writes before now (vsync_shown pictures plan timelines (showing_of vsync).report new.handler.tree.layers) × AreShown pictures shown
+    pub told : WritesVsync plan timelines new.handler.tree.layers (showing_of vsync).report before now
 
   -- A compositor and its seats came from a beginning by the vsyncs of a log; and what these show by a plan is written behind what
   -- was there before, where the buffers on layers have their pictures.
@@ -96,6 +112,17 @@ module _ {B : Type 0} (lease : Ghosts ReadLeaseOf SeatView ReadLeaseOf Issued) (
     pub log : Vsyncs lease table locks period start sitting
     pub written : (pictures : ℕ → Picture) → AreFound pictures (showings_of log)
         → Writes before now (records_shown pictures plan timelines (showings_of log)) × AreShown pictures screens
+    pub told : WritesLog plan timelines log before now
+
+-- A compositor made vsyncs one after another from a beginning, over some locks, and a prefix was written of what they show by a plan.
+pub record CutVsyncs (B : Type 0) (lease : Ghosts ReadLeaseOf SeatView ReadLeaseOf Issued) (table : TableId) (period : ℕ) (plan : Plan) (most : ℕ)
+    (timelines : List ℕ) (before now : Option (List ℕ)) : Type 0 where
+  pub locks : Locks B
+  pub start : Sitting B
+  pub last : Sitting B
+  pub fresh : IsFresh lease table locks period plan most start
+  pub log : Vsyncs lease table locks period start last
+  pub told : CutsLog lease table locks period plan timelines log before now
 
 -- nothing is lent: the pixels of all buffers on layers are at hand, and no read is kept for some that are to come back
 pub record HasAll (handler : HandlerOf ReadLeaseOf) : Type 0 where
@@ -173,6 +200,16 @@ abbrev pub WritesDue : Plan → List ℕ → Option (List ℕ) → Option (List 
 WritesDue plan timelines before now screens shown handler None = (now ≡ before) × KeepsShown screens shown
 WritesDue plan timelines before now screens shown handler (Some report) = WritesLast plan timelines before now screens shown handler report
 
+-- the records of the vsync whose report is due, if one is, were written, whichever pixels its images have
+abbrev pub TellsDue : Plan → List ℕ → Option (List ℕ) → Option (List ℕ) → HandlerOf ReadLeaseOf → Option VsyncReport → Type 0
+TellsDue plan timelines before now handler None = now ≡ before
+TellsDue plan timelines before now handler (Some report) = WritesVsync plan timelines handler.tree.layers report before now
+
+-- a prefix of them was written
+abbrev pub CutsDue : Plan → List ℕ → Option (List ℕ) → Option (List ℕ) → HandlerOf ReadLeaseOf → Option VsyncReport → Type 0
+CutsDue plan timelines before now handler None = now ≡ before
+CutsDue plan timelines before now handler (Some report) = CutsVsync plan timelines handler.tree.layers report before now
+
 -- What a compositor has that may make a vsync, which shows what a plan asks for: it is alive and has lent nothing, its display has
 -- the plan's size, its layers can't be too many, and what it took is known to be taken; and no call of it was of a later vsync than
 -- its last.
@@ -190,6 +227,14 @@ pub record IsSet (period : ℕ) (plan : Plan) (timelines : List ℕ) : Type 0 wh
   pub short : period ≤ 1000000000
   pub planned : IsPlan plan
   pub ranges : All (λ timeline. (1 ≤ timeline) × (timeline ≤ 64)) timelines
+
+-- The next vsync of a compositor that shows this may be made by its seats, which are its own.
+pub record MayShowNext {B : Type 0} (table : TableId) (locks : Locks B) (period : ℕ) (shows : ShownIn) (sitting : Sitting B) : Type 0 where
+  pub set : IsSet period shows.plan shows.timelines.items
+  pub own : AreSeats table locks sitting.seats
+  pub first : sitting.seats.by ≡ 0
+  pub early : sitting.number < 2147483648
+  pub may : MaySit shows.plan sitting
 
 module _ {B : Type 0} (lease : Ghosts ReadLeaseOf SeatView ReadLeaseOf Issued) (table : TableId) (locks : Locks B) (period : ℕ) where
   -- what a compositor keeps of its vsyncs

@@ -1,18 +1,22 @@
 //! One vsync behind: the images of the last vsync are composed from pixels that are lent, while the
 //! next vsync is made; then the pixels come back.
-ghost use Rattle.std.specs.Prelude.{◌≡◌, ◌+◌, ◌<◌, ◌≤◌, false, IfOk, OnOk, length, map};
+ghost use Rattle.std.specs.Prelude.{◌≡◌, ◌+◌, ◌≤◌, false, IfOk, OnOk, length, map};
 ghost use Rattle.sf_live_threads.specs.sf_actor.Plain.{taken_in};
 ghost use Rattle.sf_play_write.specs.sf_play.Playing.{expected_by};
-ghost use Rattle.sf_live_threads.specs.sf_live_seats.Seats.{AreSeats};
 ghost use Rattle.sf_play_write.specs.Vsyncs.{AreImagesOf, AreReadableViews, KeepsShown};
 ghost use Rattle.sf_live_threads.specs.sf_calls_stamped.Stamps.{unstamped};
+ghost use Rattle.sf_live_compositor.specs.Keeping.{IsSame, sitting_in};
 ghost use Rattle.sf_live_compositor.specs.Vsyncs.{sitting_at};
 ghost use Rattle.sf_live_compositor.specs.Sitting.{HasAll, MadeLent, MakesNext, MakesVsync, MayMake, ShowsBuffers};
 
-use crate::vsync::{MadeVsync, make_and_tell};
+use crate::compositor::Compositor;
+use crate::vsync::{MadeVsync, make_vsync};
 use sf_base::NoMemory;
-use sf_live_threads::{Handler, Lease, Locks, Look, Painted, ReadLease, Seats, TableName};
-use sf_play_write::{Beside, Engine, Output, Screen, Screens, SourcedView, compose_beside};
+use sf_live_threads::{Handler, Lease, Locks, Look, Painted, ReadLease, Seats, Sink, TableName};
+use sf_play_write::{
+    Beside, Engine, Output, Screen, Screens, SourcedView, Workers, compose_beside,
+};
+use std::alloc::Global;
 use std::sync::Wait;
 use std::thread::Threads;
 
@@ -29,6 +33,19 @@ fn tell_layers<B: TableName>(handler: &Handler<ReadLease<B>>)
     ensures buffers { handler.now.is_spent ≡ false → ShowsBuffers handler.now }
 {
     let _layers = handler.tree().layers();
+}
+
+/// What a visit makes its vsync with, besides seats and handler.
+#[derive(Drop)]
+struct Visiting<'r, 'n, 'l, R, B: TableName> {
+    rt: &'r R,
+    alloc: Global,
+    workers: Workers,
+    look: Look<'n>,
+    locks: &'l Locks<B>,
+    period: u64,
+    /// How many vsyncs were made before.
+    before: u32,
 }
 
 /// The next vsync, which is made beside composing what the last one shows.
@@ -53,106 +70,139 @@ impl<'a, R: Wait, B: TableName> Beside for NextVsync<'a, R, B> {
         × MakesNext ⟦<ReadLease<B> as Lease>⟧ B.table next.locks.now next.period (sitting_at next.handler.now next.seats.now next.before)
         (sitting_at done.handler.now done.seats.now (next.before + 1)) result };
 
+    /// Makes it, and then notifies threads of the look at all that was done before.
     fn run(&mut self) -> Result<MadeVsync, NoMemory> {
-        make_and_tell(
+        let made = make_vsync(
             self.rt,
-            &self.look,
             self.locks,
             self.seats,
             self.handler,
             self.period,
             self.before,
-        )
+        );
+        if let Ok(made) = &made {
+            self.look.tell(self.rt, made.goes_on);
+        }
+        made
     }
 }
 
 /// Composes the images of views from pixels that are lent, and makes the next vsync beside it.
 fn compose_and_make<R: Threads + Wait + Sync, B: TableName>(
-    engine: &Engine<R>,
+    visit: &Visiting<R, B>,
     screens: &mut Screens,
     contents: &[Painted],
     views: Vec<Output<SourcedView>>,
-    look: &Look,
-    locks: &Locks<B>,
     seats: &mut Seats<B>,
     handler: &mut Handler<ReadLease<B>>,
-    period: u64,
-    before: u32,
 ) -> Both
     requires readable { AreReadableViews (map (λ p. p) contents.now) views.items }
-    requires own { AreSeats B.table locks.now seats.old }
-    requires first { seats.old.by ≡ 0 }
-    requires known { handler.old.last ≤ taken_in (unstamped seats.old.arrivals.seen) }
-    requires period { period ≤ 1000000000 }
-    requires early { before < 2147483648 }
-    requires step { seats.old.last.step ≤ before }
+    requires next { MayMake B.table visit.now.locks.now visit.now.period (sitting_at handler.old seats.old visit.now.before) }
     ensures images { IfOk result.0 (λ images. AreImagesOf (map (λ p. p) contents.now) views.items screens.old images.items) }
     ensures shown { KeepsShown screens.old screens.new }
-    ensures makes { MadeLent ⟦<ReadLease<B> as Lease>⟧ B.table locks.now period
-        (sitting_at handler.old seats.old before) (sitting_at handler.new seats.new (before + 1)) result.1 }
+    ensures makes { MadeLent ⟦<ReadLease<B> as Lease>⟧ B.table visit.now.locks.now visit.now.period
+        (sitting_at handler.old seats.old visit.now.before) (sitting_at handler.new seats.new (visit.now.before + 1)) result.1 }
     ensures known { OnOk result.1 (handler.new.last ≤ taken_in (unstamped seats.new.arrivals.seen)) }
-    ensures early { OnOk result.1 (seats.new.last.step ≤ before + 1) }
+    ensures early { OnOk result.1 (seats.new.last.step ≤ visit.now.before + 1) }
     ensures lent { handler.new.lent ≡ handler.old.lent }
     ensures table { seats.new.turns.table ≡ seats.old.turns.table }
 {
+    let engine = Engine {
+        rt: visit.rt,
+        alloc: visit.alloc,
+        workers: visit.workers,
+    };
     let mut next = NextVsync {
-        rt: engine.rt,
-        look: *look,
-        locks,
+        rt: visit.rt,
+        look: visit.look,
+        locks: visit.locks,
         seats,
         handler,
-        period,
-        before,
+        period: visit.period,
+        before: visit.before,
     };
-    compose_beside(engine, screens, contents, views, &mut next)
+    compose_beside(&engine, screens, contents, views, &mut next)
 }
 
 /// Composes the images of views from the pixels of what the handler shows, which are lent meanwhile,
 /// and makes the next vsync beside it. Frames that go are given back at once; reads of them end when
 /// the pixels come back.
-pub(crate) fn make_behind<R: Threads + Wait + Sync, B: TableName>(
-    engine: &Engine<R>,
+fn make_beside<R: Threads + Wait + Sync, B: TableName>(
+    visit: &Visiting<R, B>,
     screens: &mut Screens,
     views: Vec<Output<SourcedView>>,
-    look: &Look,
-    locks: &Locks<B>,
     seats: &mut Seats<B>,
     handler: &mut Handler<ReadLease<B>>,
-    period: u64,
-    before: u32,
 ) -> Both
-    requires readable { AreReadableViews (map expected_by handler.old.on) views.items }
-    requires own { AreSeats B.table locks.now seats.old }
-    requires first { seats.old.by ≡ 0 }
+    requires next { MayMake B.table visit.now.locks.now visit.now.period (sitting_at handler.old seats.old visit.now.before) }
     requires all { HasAll handler.old }
-    requires known { handler.old.last ≤ taken_in (unstamped seats.old.arrivals.seen) }
-    requires period { period ≤ 1000000000 }
-    requires early { before < 2147483648 }
-    requires step { seats.old.last.step ≤ before }
+    requires readable { AreReadableViews (map expected_by handler.old.on) views.items }
     ensures images { IfOk result.0 (λ images. AreImagesOf (map expected_by handler.old.on) views.items screens.old images.items) }
     ensures shown { KeepsShown screens.old screens.new }
-    ensures makes { IfOk result.1 (λ made. MakesVsync ⟦<ReadLease<B> as Lease>⟧ B.table locks.now period
-        (sitting_at handler.old seats.old before) (sitting_at handler.new seats.new (before + 1)) made.report) }
+    ensures makes { IfOk result.1 (λ made. MakesVsync ⟦<ReadLease<B> as Lease>⟧ B.table visit.now.locks.now visit.now.period
+        (sitting_at handler.old seats.old visit.now.before) (sitting_at handler.new seats.new (visit.now.before + 1)) made.report) }
     ensures known { OnOk result.1 (handler.new.last ≤ taken_in (unstamped seats.new.arrivals.seen)) }
-    ensures early { OnOk result.1 (seats.new.last.step ≤ before + 1) }
+    ensures early { OnOk result.1 (seats.new.last.step ≤ visit.now.before + 1) }
     ensures all { HasAll handler.new }
     ensures few { length handler.new.tree.layers ≤ handler.new.tree.most }
     ensures buffers { handler.new.is_spent ≡ false → ShowsBuffers handler.new }
 {
     let contents = handler.lend();
     let both = compose_and_make(
-        engine,
+        visit,
         screens,
         contents.list.as_slice(),
         views,
-        look,
-        locks,
         seats,
         handler,
-        period,
-        before,
     );
     seats.give_back(handler, contents);
     tell_layers(handler);
     both
+}
+
+impl<'a, K: Sink, B: TableName> Compositor<'a, K, B> {
+    /// Makes the next vsync while views of what the last one left are composed. It counts it.
+    pub(crate) fn make_behind<R: Threads + Wait + Sync>(
+        &mut self,
+        rt: &R,
+        locks: &Locks<B>,
+        seats: &mut Seats<B>,
+        look: &Look,
+        views: Vec<Output<SourcedView>>,
+    ) -> Both
+        requires next { MayMake B.table locks.now self.old.period (sitting_in seats.old self.old) }
+        requires all { HasAll self.old.decider.handler }
+        requires readable { AreReadableViews (map expected_by self.old.decider.handler.on) views.items }
+        ensures same { IsSame self.old self.new }
+        ensures sink { self.new.sink ≡ self.old.sink }
+        ensures images { IfOk result.0 (λ images. AreImagesOf (map expected_by self.old.decider.handler.on) views.items self.old.screens images.items) }
+        ensures shown { KeepsShown self.old.screens self.new.screens }
+        ensures makes { IfOk result.1 (λ made. MakesVsync ⟦<ReadLease<B> as Lease>⟧ B.table locks.now self.old.period
+            (sitting_in seats.old self.old) (sitting_in seats.new self.new) made.report) }
+        ensures known { OnOk result.1 (self.new.decider.handler.last ≤ taken_in (unstamped seats.new.arrivals.seen)) }
+        ensures early { OnOk result.1 (seats.new.last.step ≤ self.new.vsyncs) }
+        ensures all { HasAll self.new.decider.handler }
+        ensures few { length self.new.decider.handler.tree.layers ≤ self.new.decider.handler.tree.most }
+        ensures buffers { self.new.decider.handler.is_spent ≡ false → ShowsBuffers self.new.decider.handler }
+    {
+        let visit = Visiting {
+            rt,
+            alloc: self.alloc,
+            workers: self.workers,
+            look: *look,
+            locks,
+            period: self.period,
+            before: self.vsyncs,
+        };
+        let both = make_beside(
+            &visit,
+            &mut self.screens,
+            views,
+            seats,
+            &mut self.decider.handler,
+        );
+        self.vsyncs += 1;
+        both
+    }
 }

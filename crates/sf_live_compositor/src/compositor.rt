@@ -1,16 +1,15 @@
 //! The compositor of a live run, which the actors' threads visit: it makes a vsync at each visit,
 //! and keeps the one whose records are still to be written.
 ghost use denote.Param.Send.{IsSync};
-ghost use Rattle.std.specs.Prelude.{OnErr, OnOk};
+ghost use Rattle.std.specs.Prelude.{OnOk};
 ghost use Rattle.sf_live_threads.specs.sf_live_seats.First.{IsFirst};
 ghost use Rattle.sf_live_threads.specs.Visits.{LeavesGiven};
-ghost use Rattle.sf_live_compositor.specs.Keeping.{HasEnded, Keeps};
+ghost use Rattle.sf_live_compositor.specs.Keeping.{EndsKept, HasEnded, Keeps, StaysKept};
 
 use crate::decider::Decider;
-use crate::showing::show_next;
 use crate::vsync::MadeVsync;
 use sf_live_threads::{Ended, FirstSeats, Lease, Locks, Look, ReadLease, Sink, TableName, Visit};
-use sf_play_write::{Engine, Plan, RunFault, Screens, VsyncReport, Workers, show_vsync};
+use sf_play_write::{Engine, RunFault, Screens, Shows, VsyncReport, Workers, show_vsync};
 use std::alloc::Global;
 use std::sync::Wait;
 use std::thread::Threads;
@@ -27,11 +26,9 @@ pub struct Compositor<'a, K, B: TableName> {
     pub workers: Workers,
     /// Between two vsyncs, in nanoseconds, at most a second.
     pub period: u64,
-    /// The declared timelines by rising number.
-    pub timelines: Vec<u32>,
-    pub sink: &'a mut K,
     /// What its vsyncs show.
-    pub plan: Plan,
+    pub shows: Shows,
+    pub sink: &'a mut K,
     pub screens: Screens,
     /// What the last vsync did, if there was one: its records are still to be written.
     pub due: Option<VsyncReport>,
@@ -45,7 +42,7 @@ pub struct Compositor<'a, K, B: TableName> {
 impl<'a, R: Threads + Wait + Sync, K: Sink, B: TableName> Visit<R, B> for Compositor<'a, K, B> {
     ghost keeps = { λ start c locks first. IsSync R.row × Keeps K.taken K.faults ⟦<ReadLease<B> as Lease>⟧ B.table start c locks first };
 
-    ghost ended = { HasEnded K.taken K.faults };
+    ghost ended = { HasEnded K.taken K.faults ⟦<ReadLease<B> as Lease>⟧ B.table };
 
     fn visit(
         &mut self,
@@ -57,34 +54,14 @@ impl<'a, R: Threads + Wait + Sync, K: Sink, B: TableName> Visit<R, B> for Compos
         requires first { IsFirst B.table locks.now first.old }
         requires kept { (start : _) × (IsSync R.row × Keeps K.taken K.faults ⟦<ReadLease<B> as Lease>⟧ B.table start self.old locks.now first.old) }
         ensures first { OnOk result (IsFirst B.table locks.now first.new) }
-        ensures kept { (start : _) → IsSync R.row × Keeps K.taken K.faults ⟦<ReadLease<B> as Lease>⟧ B.table start self.old locks.now first.old
-            → OnOk result (IsSync R.row × Keeps K.taken K.faults ⟦<ReadLease<B> as Lease>⟧ B.table start self.new locks.now first.new) }
+        ensures kept { StaysKept K.taken K.faults ⟦<ReadLease<B> as Lease>⟧ B.table self.old self.new result (IsSync R.row) locks.now first.old first.new }
         ensures given { OnOk result (LeavesGiven first.old first.new) }
-        ensures ended { (start : _) → IsSync R.row × Keeps K.taken K.faults ⟦<ReadLease<B> as Lease>⟧ B.table start self.old locks.now first.old
-            → OnErr result (HasEnded K.taken K.faults start self.new) }
+        ensures ended { EndsKept K.taken K.faults ⟦<ReadLease<B> as Lease>⟧ B.table self.old self.new result (IsSync R.row) locks.now first.old }
     {
         if self.vsyncs >= MOST_VSYNCS {
             return Ok(false);
         }
-        let engine = Engine {
-            rt,
-            alloc: self.alloc,
-            workers: self.workers,
-        };
-        match show_next(
-            &engine,
-            self.sink,
-            &self.timelines,
-            &self.plan,
-            &mut self.screens,
-            self.due.take(),
-            look,
-            locks,
-            &mut first.seats,
-            &mut self.decider.handler,
-            self.period,
-            self.vsyncs,
-        ) {
+        match self.show_next(rt, locks, &mut first.seats, look) {
             Ok(made) => {
                 let MadeVsync {
                     report,
@@ -92,7 +69,6 @@ impl<'a, R: Threads + Wait + Sync, K: Sink, B: TableName> Visit<R, B> for Compos
                     releases,
                 } = made;
                 self.due = Some(report);
-                self.vsyncs += 1;
                 Ok(releases)
             }
             Err(fault) => {
@@ -104,18 +80,15 @@ impl<'a, R: Threads + Wait + Sync, K: Sink, B: TableName> Visit<R, B> for Compos
 }
 
 impl<'a, K: Sink, B: TableName> Compositor<'a, K, B> {
-    ghost use Rattle.std.specs.Prelude.{◌≡◌, None, OnErr, OnOk};
-    ghost use Rattle.sf_live_compositor.specs.Keeping.{HasEnded, Keeps};
+    ghost use Rattle.sf_live_compositor.specs.Keeping.{EndsSettled, Keeps, StaysSettled};
     ghost use Rattle.sf_live_threads.specs.sf_live_seats.declared.first.FirstSeats.{FirstSeats as FirstIn};
     ghost use Rattle.sf_live_threads.specs.sf_live_seats.declared.locks.Locks.{Locks as LocksIn};
 
     /// Composes what the last vsync shows, once none follows, and writes its records, if they are due.
     pub fn settle<R: Threads + Sync>(&mut self, rt: &R) -> Result<(), Ended>
         requires kept { (start : _) × (locks : LocksIn B) × (first : FirstIn B) × Keeps K.taken K.faults ⟦<ReadLease<B> as Lease>⟧ B.table start self.old locks first }
-        ensures kept { (start : _) (locks : LocksIn B) (first : FirstIn B) → Keeps K.taken K.faults ⟦<ReadLease<B> as Lease>⟧ B.table start self.old locks first
-            → OnOk result (Keeps K.taken K.faults ⟦<ReadLease<B> as Lease>⟧ B.table start self.new locks first × (self.new.due ≡ None)) }
-        ensures ended { (start : _) (locks : LocksIn B) (first : FirstIn B) → Keeps K.taken K.faults ⟦<ReadLease<B> as Lease>⟧ B.table start self.old locks first
-            → OnErr result (HasEnded K.taken K.faults start self.new) }
+        ensures kept { StaysSettled K.taken K.faults ⟦<ReadLease<B> as Lease>⟧ B.table self.old self.new result }
+        ensures ended { EndsSettled K.taken K.faults ⟦<ReadLease<B> as Lease>⟧ B.table self.old self.new result }
     {
         let Some(report) = self.due.take() else {
             return Ok(());
@@ -128,8 +101,7 @@ impl<'a, K: Sink, B: TableName> Compositor<'a, K, B> {
         match show_vsync(
             &engine,
             self.sink,
-            &self.timelines,
-            &self.plan,
+            &self.shows,
             &mut self.screens,
             &self.decider.handler,
             report,

@@ -12,10 +12,10 @@ mod vsync;
 pub use compositor::Compositor;
 pub use decider::Decider;
 pub use sf_live_threads::{
-    Actor, AllReturned, Desk, Ended, FirstSeats, Gates, Handler, Lease, Locks, PlainDesk,
+    Actor, AllReturned, Desk, Ended, FirstSeats, Gates, Handler, Host, Lease, Locks, PlainDesk,
     QueueObject, ReadLease, Reply, ReturnedActor, Stopped, run_actors,
 };
 pub use sf_play_write::{
-    Action, ActorSet, Engine, Plan, Player, RunFault, Screens, Workers, opening, permits_for,
-    plan_of, reply_record, rising_timelines, show_play, show_vsync, write_closing, write_made,
+    Action, ActorSet, Engine, Player, RunFault, Screens, Shows, Workers, opening, permits_for,
+    reply_record, show_play, show_vsync, write_closing, write_made,
 };

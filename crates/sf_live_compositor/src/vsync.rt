@@ -1,5 +1,5 @@
 //! A vsync of a live run: it looks at the timelines, takes what arrived through the compositor's
-//! seats, decides, and gives back the frames that go; then it notifies threads of its look.
+//! seats, decides, and gives back the frames that go.
 ghost use Rattle.std.specs.Prelude.{◌≡◌, ◌+◌, ◌≤◌, OnOk};
 ghost use Rattle.sf_live_threads.specs.sf_actor.Plain.{taken_in};
 ghost use Rattle.sf_live_threads.specs.sf_live_seats.Seats.{AreSeats};
@@ -9,7 +9,7 @@ ghost use Rattle.sf_live_compositor.specs.Sitting.{MadeLent};
 
 use crate::release::release_all;
 use sf_base::{Items, NoMemory};
-use sf_live_threads::{Committed, Handler, Lease, Locks, Look, ReadLease, Seats, TableName};
+use sf_live_threads::{Committed, Handler, Lease, Locks, ReadLease, Seats, TableName};
 use sf_play_write::{VsyncReport, is_time};
 use std::sync::Wait;
 
@@ -31,7 +31,7 @@ pub(crate) struct MadeVsync {
 /// Makes the next vsync, where so many were made before: it looks at the timelines, takes what arrived,
 /// decides, and gives back the frames that go. The handler's pixels are lent; reads of frames that go
 /// are kept until these come back.
-fn make_vsync<R: Wait, B: TableName>(
+pub(crate) fn make_vsync<R: Wait, B: TableName>(
     rt: &R,
     locks: &Locks<B>,
     seats: &mut Seats<B>,
@@ -78,35 +78,4 @@ fn make_vsync<R: Wait, B: TableName>(
         goes_on,
         releases: has_released,
     })
-}
-
-/// Makes the next vsync as `make_vsync` does, and then notifies threads of the look at all that was
-/// done before.
-pub(crate) fn make_and_tell<R: Wait, B: TableName>(
-    rt: &R,
-    look: &Look,
-    locks: &Locks<B>,
-    seats: &mut Seats<B>,
-    handler: &mut Handler<ReadLease<B>>,
-    period: u64,
-    before: u32,
-) -> Result<MadeVsync, NoMemory>
-    requires own { AreSeats B.table locks.now seats.old }
-    requires first { seats.old.by ≡ 0 }
-    requires known { handler.old.last ≤ taken_in (unstamped seats.old.arrivals.seen) }
-    requires period { period ≤ 1000000000 }
-    requires few { before ≤ 2147483648 }
-    requires early { seats.old.last.step ≤ before }
-    ensures makes { MadeLent ⟦<ReadLease<B> as Lease>⟧ B.table locks.now period
-        (sitting_at handler.old seats.old before) (sitting_at handler.new seats.new (before + 1)) result }
-    ensures known { OnOk result (handler.new.last ≤ taken_in (unstamped seats.new.arrivals.seen)) }
-    ensures early { OnOk result (seats.new.last.step ≤ before + 1) }
-    ensures lent { handler.new.lent ≡ handler.old.lent }
-    ensures table { seats.new.turns.table ≡ seats.old.turns.table }
-{
-    let made = make_vsync(rt, locks, seats, handler, period, before);
-    if let Ok(made) = &made {
-        look.tell(rt, made.goes_on);
-    }
-    made
 }

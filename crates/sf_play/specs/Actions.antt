@@ -74,6 +74,14 @@ module _ {B : Type 0} where
   abbrev pub next_tried : PlayerOf B → Option ℕ
   next_tried player = tried_from player.play (settled player.play.order player.place)
 
+  -- the action is the try of the step that was to be tried next, if one was
+  abbrev pub TriesOnlyNext : TableId → List (ActorOf B) → PlayerOf B → PlayerOf B → Action → Type 0
+  TriesOnlyNext table ofs old new came_to = (place : ℕ) → next_tried old ≡ Some place → TriesStep table place ofs old.play new.play came_to
+
+  -- an actor that did a step is the one whose step was to be tried next
+  abbrev pub StepsOnlyNext : PlayerOf B → Action → Type 0
+  StepsOnlyNext old came_to = (place : ℕ) → came_to ≡ action.Step place → next_tried old ≡ Some place
+
 module _ {B : Type 0} {R C : Type 0} (lease : Ghosts ReadLeaseOf SeatView R C) (table : TableId) (ofs : List (ActorOf B)) where
   -- a vsync was made
   pub record TakesVsync (old new : PlayerOf B) (came_to : Action) : Type 0 where

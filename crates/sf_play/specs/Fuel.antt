@@ -1,5 +1,5 @@
 -- How much is left of a play. Each of its actions lessens it.
-use Rattle.std.specs.Prelude.{ℕ, ◌+◌, ◌-◌, ◌*◌, ◌/◌, min, Bool, false, if◌then◌else◌, List, [], ◌∷◌, drop, length, Option, Some, None}
+use Rattle.std.specs.Prelude.{ℕ, ◌+◌, ◌-◌, ◌*◌, ◌/◌, ◌<◌, min, Bool, false, if◌then◌else◌, List, [], ◌∷◌, drop, length, Option, Some, None}
 use Rattle.std.specs.List.{sum_by}
 use Rattle.sf_play_report.specs.sf_surface.Tokens.{ReadLeaseOf}
 use Rattle.sf_play_report.specs.sf_token.Pending.{Arrival}
@@ -64,3 +64,7 @@ module _ {B : Type 0} where
   vsyncs_left order play (at.Order place done) = picks_left order (at.Order place done) + (rounds_left play false + 1)
   vsyncs_left order play (at.Round place stepped) = rounds_left play stepped + 1
   vsyncs_left order play at.End = 0
+
+  -- all vsyncs of the rounds that follow have numbers of 32 bits
+  abbrev pub HasNumbersLeft : PlayOf B → Type 0
+  HasNumbersLeft play = play.vsyncs + vsyncs_left play.order play (at.Round 0 false) < 4294967295

@@ -4,6 +4,7 @@ pub mod Fuel
 pub mod Giving
 pub mod Going
 pub mod Happening
+pub mod LateReplies
 pub mod Places
 pub mod Players
 pub mod Playing

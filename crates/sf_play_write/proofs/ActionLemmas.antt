@@ -37,7 +37,6 @@ use Rattle.sf_play.specs.law_played.Replies.{reply_shown}
 use Rattle.sf_play.specs.law_played.Seeing.{value_shown}
 use Rattle.sf_play.specs.law_played.Vsyncs.{rising_timelines}
 use Rattle.sf_output_screen.specs.ScreenLists.{AreShown}
-use Rattle.sf_output_screen.specs.declared.screens.OutputScreen.{OutputScreen}
 use Rattle.sf_play.specs.Going.{GoesAlong}
 use Rattle.sf_play.specs.Happening.{VsyncHappens}
 use Rattle.sf_play.specs.Players.{PlayOf, PlayerOf, SoFar}
@@ -45,7 +44,9 @@ use Rattle.sf_play.specs.Showing.{vsync_shown as play_shown}
 use Rattle.sf_play.specs.Standing.{StandsAlong}
 use Rattle.sf_play.specs.declared.action.Action.{Action}
 use Rattle.sf_play.specs.declared.action.Action.TheVariants as action
+use Rattle.sf_play_write.specs.declared.shows.Shows.{Shows}
 use Rattle.sf_play_write.specs.Runs.{CutRun}
+use Rattle.sf_play_write.specs.Showing.{IsOfScene, Written}
 use Rattle.sf_play.specs.Actions.{is_end}
 use Rattle.sf_play_write.specs.inner.Rows.{IsWriting, MayShowAction, GoesOnWriting, newest_of, newest_shown, action_shown}
 use Rattle.sf_play_write.specs.Vsyncs.{records_if, told_with}
@@ -125,18 +126,17 @@ module _ {B : Type 0} where
       ∙ sym (ap (λ (s : SoFar B). events_records s.events) happens)
 
   -- the records of an action follow those of what was shown before
-  pub action_records : (table : TableId) (scene : SceneValue) (plan : Plan) (timelines : List ℕ) (so : SoFar B) (came_to : Action) (player : PlayerOf B) → plan ≡ plan_of scene → timelines ≡ rising_timelines scene
-      → (goes : GoesAlong table scene so came_to player)
-      → events_records so.events ++ action_shown (picture_at scene.pictures) plan timelines player.play came_to ≡ events_records goes.later.events
-  action_records table scene plan timelines so (action.Step place) player planned rising goes =
+  pub action_records : (table : TableId) (scene : SceneValue) (shows : Shows) (so : SoFar B) (came_to : Action) (player : PlayerOf B) → IsOfScene scene shows → (goes : GoesAlong table scene so came_to player)
+      → events_records so.events ++ action_shown (picture_at scene.pictures) shows player.play came_to ≡ events_records goes.later.events
+  action_records table scene shows so (action.Step place) player asked goes =
       let did = goes.happens in
       ap (λ (rs : List Record). events_records so.events ++ rs) (step_shown place player.play.actor_set.actors did.actor did.earlier did.reply did.there did.replies)
       ∙ sym (more_records so.events (event.Reply (reply_shown did.reply)))
       ∙ sym (ap (λ (s : SoFar B). events_records s.events) did.is)
-  action_records table scene plan timelines so (action.Vsync report) player planned rising goes =
-      vsync_is scene plan timelines report player.play so goes.later planned rising report.commits refl goes.happens
-  action_records table scene plan timelines so action.Idle player planned rising goes = append-nil (events_records so.events) ∙ sym (ap (λ (s : SoFar B). events_records s.events) goes.happens)
-  action_records table scene plan timelines so action.End player planned rising goes = append-nil (events_records so.events) ∙ sym (ap (λ (s : SoFar B). events_records s.events) goes.happens)
+  action_records table scene shows so (action.Vsync report) player asked goes =
+      vsync_is scene shows.plan shows.timelines.items report player.play so goes.later asked.planned asked.rising report.commits refl goes.happens
+  action_records table scene shows so action.Idle player asked goes = append-nil (events_records so.events) ∙ sym (ap (λ (s : SoFar B). events_records s.events) goes.happens)
+  action_records table scene shows so action.End player asked goes = append-nil (events_records so.events) ∙ sym (ap (λ (s : SoFar B). events_records s.events) goes.happens)
 
   pub may_show : (table : TableId) (scene : SceneValue) (so : SoFar B) (came_to : Action) (player : PlayerOf B) → GoesAlong table scene so came_to player → MayShowAction scene came_to player
   may_show table scene so (action.Step place) player goes = slice_get_within player.play.actor_set.actors place goes.happens.actor goes.happens.there
@@ -145,33 +145,30 @@ module _ {B : Type 0} where
   may_show table scene so action.End player goes = tt
 
   -- an action was written behind what was written before
-  pub goes_on : (table : TableId) (scene : SceneValue) (plan : Plan) (timelines : List ℕ) (start a b : Option (List ℕ)) (before screens : List OutputScreen) (old player : PlayerOf B) (came_to : Action)
-      (w : IsWriting table scene plan timelines start a before old) → GoesAlong table scene w.so came_to player
-      → Writes a b (action_shown (picture_at scene.pictures) plan timelines player.play came_to) → AreShown (picture_at scene.pictures) screens
-      → IsWriting table scene plan timelines start b screens player
-  goes_on table scene plan timelines start a b before screens old player came_to w goes now shown =
-      let records = action_shown (picture_at scene.pictures) plan timelines player.play came_to in
+  pub goes_on : (table : TableId) (scene : SceneValue) (shows : Shows) (start : Option (List ℕ)) (before after : Written B) (came_to : Action) (w : IsWriting table scene shows start before)
+      → GoesAlong table scene w.so came_to after.player → Writes before.taken after.taken (action_shown (picture_at scene.pictures) shows after.player.play came_to) → AreShown (picture_at scene.pictures) after.screens
+      → IsWriting table scene shows start after
+  goes_on table scene shows start before after came_to w goes now shown =
+      let records = action_shown (picture_at scene.pictures) shows after.player.play came_to in
       record {
         so = goes.later;
         stands = goes.stands;
-        planned = w.planned;
-        rising = w.rising;
-        written = subst (Writes start b) (ap (λ (rs : List Record). opening scene ∷ rs) (action_records table scene plan timelines w.so came_to player w.planned w.rising goes))
-            (writes_more start a b (opening scene ∷ events_records w.so.events) records w.written now);
+        asked = w.asked;
+        written = subst (Writes start after.taken) (ap (λ (rs : List Record). opening scene ∷ rs) (action_records table scene shows w.so came_to after.player w.asked goes))
+            (writes_more start before.taken after.taken (opening scene ∷ events_records w.so.events) records w.written now);
         shown = shown;
       }
 
-  pub actions_on : (table : TableId) (scene : SceneValue) (plan : Plan) (timelines : List ℕ) (start a b : Option (List ℕ)) (before screens : List OutputScreen) (old player : PlayerOf B) (came_to : Action)
-      (w : IsWriting table scene plan timelines start a before old) → GoesAlong table scene w.so came_to player
-      → Writes a b (action_shown (picture_at scene.pictures) plan timelines player.play came_to) → AreShown (picture_at scene.pictures) screens
-      → GoesOnWriting (not (is_end came_to)) table scene plan timelines start b screens player
+  pub actions_on : (table : TableId) (scene : SceneValue) (shows : Shows) (start : Option (List ℕ)) (before after : Written B) (came_to : Action) (w : IsWriting table scene shows start before)
+      → GoesAlong table scene w.so came_to after.player → Writes before.taken after.taken (action_shown (picture_at scene.pictures) shows after.player.play came_to) → AreShown (picture_at scene.pictures) after.screens
+      → GoesOnWriting (not (is_end came_to)) table scene shows start after
   unfolding goes_on
-  actions_on table scene plan timelines start a b before screens old player action.End w goes now shown =
-      let on = goes_on table scene plan timelines start a b before screens old player action.End w goes now shown in
+  actions_on table scene shows start before after action.End w goes now shown =
+      let on = goes_on table scene shows start before after action.End w goes now shown in
       record { so = goes.later; stands = goes.stands; written = on.written; ends = goes.tells }
-  actions_on table scene plan timelines start a b before screens old player (action.Step place) w goes now shown = goes_on table scene plan timelines start a b before screens old player (action.Step place) w goes now shown
-  actions_on table scene plan timelines start a b before screens old player action.Idle w goes now shown = goes_on table scene plan timelines start a b before screens old player action.Idle w goes now shown
-  actions_on table scene plan timelines start a b before screens old player (action.Vsync report) w goes now shown = goes_on table scene plan timelines start a b before screens old player (action.Vsync report) w goes now shown
+  actions_on table scene shows start before after (action.Step place) w goes now shown = goes_on table scene shows start before after (action.Step place) w goes now shown
+  actions_on table scene shows start before after action.Idle w goes now shown = goes_on table scene shows start before after action.Idle w goes now shown
+  actions_on table scene shows start before after (action.Vsync report) w goes now shown = goes_on table scene shows start before after (action.Vsync report) w goes now shown
 
   -- what was written of an action begins the records of the play
   pub cut_so_far : (table : TableId) (scene : SceneValue) (start now : Option (List ℕ)) (so : SoFar B) (player : PlayerOf B) → StandsAlong table scene so player
@@ -186,11 +183,10 @@ module _ {B : Type 0} where
             (part_front start now (opening scene ∷ events_records along.playing.events) begins.2.rest (subst (λ (es : List Event). WritesPart start now (opening scene ∷ events_records es)) (sym along.shows) part));
       }
 
-  pub action_cut : (table : TableId) (scene : SceneValue) (plan : Plan) (timelines : List ℕ) (start a b : Option (List ℕ)) (before : List OutputScreen) (old player : PlayerOf B) (came_to : Action)
-      (w : IsWriting table scene plan timelines start a before old) → GoesAlong table scene w.so came_to player
-      → WritesPart a b (action_shown (picture_at scene.pictures) plan timelines player.play came_to) → CutRun scene start b
-  action_cut table scene plan timelines start a b before old player came_to w goes part =
-      let records = action_shown (picture_at scene.pictures) plan timelines player.play came_to in
-      cut_so_far table scene start b goes.later player goes.stands
-      (subst (WritesPart start b) (ap (λ (rs : List Record). opening scene ∷ rs) (action_records table scene plan timelines w.so came_to player w.planned w.rising goes))
-      (part_more start a b (opening scene ∷ events_records w.so.events) records w.written part))
+  pub action_cut : (table : TableId) (scene : SceneValue) (shows : Shows) (start now : Option (List ℕ)) (before : Written B) (player : PlayerOf B) (came_to : Action) (w : IsWriting table scene shows start before)
+      → GoesAlong table scene w.so came_to player → WritesPart before.taken now (action_shown (picture_at scene.pictures) shows player.play came_to) → CutRun scene start now
+  action_cut table scene shows start now before player came_to w goes part =
+      let records = action_shown (picture_at scene.pictures) shows player.play came_to in
+      cut_so_far table scene start now goes.later player goes.stands
+      (subst (WritesPart start now) (ap (λ (rs : List Record). opening scene ∷ rs) (action_records table scene shows w.so came_to player w.asked goes))
+      (part_more start before.taken now (opening scene ∷ events_records w.so.events) records w.written part))

@@ -1,31 +1,29 @@
 -- What is written of a whole play, from its first record to the last one.
-use Rattle.std.proofs.Common.{◌≡◌, ℕ, List, [], ◌∷◌, ◌++◌, Option, Result, Ok, Err, ap, sym, ◌∙◌, subst, OnErr, OnOk}
+use Rattle.std.proofs.Common.{◌≡◌, ℕ, List, [], ◌∷◌, ◌++◌, Option, Result, Ok, Err, ap, sym, subst, OnErr, OnOk}
 use Rattle.std.proofs.lemmas.List.Elements.{All-nil}
 use Rattle.atomic_table.specs.Seated.{TableId}
 use Rattle.sf_play.specs.sf_actor.Scripts.{picture_at}
-use Rattle.sf_play.specs.sf_output_plan.declared.plan.Plan.{Plan}
 use Rattle.sf_output_screen.specs.Screens.{IsShown}
 use Rattle.sf_output_screen.specs.declared.screens.OutputScreen.{OutputScreen}
 use Rattle.sf_play.specs.sf_script_scene.Limits.{IsWithinLimits}
 use Rattle.sf_play.specs.sf_script_scene.Scene.{SceneValue}
-use Rattle.sf_play.specs.sf_actor_set.Opening.{IsSortedFrom}
 use Rattle.sf_play.specs.sf_record.Events.{events_records}
 use Rattle.sf_play.specs.sf_record.declared.encode.RunFault.{RunFault}
 use Rattle.sf_play.specs.sf_record.declared.event.Event.{Event}
 use Rattle.sf_play.specs.sf_record.declared.record.Record.{Record}
 use Rattle.sf_play.proofs.law_played_lemmas.PlayEnds.{has_records}
-use Rattle.sf_play.specs.law_played.Frames.{plan_of}
 use Rattle.sf_play.specs.law_played.Played.{opening}
 use Rattle.sf_play.specs.law_played.Plays.{first_playing, stays}
 use Rattle.sf_play.specs.Going.{records_so}
 use Rattle.sf_play.specs.Players.{PlayerOf}
-use Rattle.sf_play.specs.Standing.{Begins}
 use Rattle.sf_play_write.specs.Closings.{closing_of}
+use Rattle.sf_play_write.specs.declared.shows.Shows.{Shows}
 use Rattle.sf_play_write.specs.Runs.{CutRun, WroteRun}
+use Rattle.sf_play_write.specs.Showing.{written_at}
 use Rattle.sf_play_write.specs.inner.Rows.{HasWritten, IsReady, IsWriting}
 use Rattle.sf_play_write.specs.Writing.{Writes, WritesPart}
 use Rattle.sf_play_write.proofs.ClosingLemmas.{closing_is}
-use Rattle.sf_play_write.proofs.ActionLemmas.{cut_so_far, timelines_are}
+use Rattle.sf_play_write.proofs.ActionLemmas.{cut_so_far}
 use Rattle.sf_play_write.proofs.WritingLemmas.{part_more, part_none, writes_more}
 
 -- nothing was shown: only the first record is there
@@ -39,25 +37,13 @@ nothing_written scene a limits =
     let begins = has_records scene (first_playing scene) limits stays in
     record { records = begins.0; is_play = begins.1; written = part_none a begins.0 }
 
--- a player that begins is ready, with the timelines by rising number
-pub is_ready : {B : Type 0} (table : TableId) (scene : SceneValue) (plan : Plan) (first : Record) (given sorted timelines : List ℕ) (player : PlayerOf B) → IsWithinLimits scene
-    → Begins table scene player → plan ≡ plan_of scene → first ≡ opening scene → given ≡ scene.timelines → IsSortedFrom (λ timeline. timeline) given sorted → timelines ≡ sorted
-    → IsReady table scene plan first timelines player
-is_ready table scene plan first given sorted timelines player limits begins planned opens are is same = record {
-  begins = begins;
-  planned = planned;
-  opens = opens;
-  rising = same ∙ timelines_are scene sorted limits (subst (λ (ts : List ℕ). IsSortedFrom (λ timeline. timeline) ts sorted) are is);
-}
-
-module _ {B : Type 0} (table : TableId) (scene : SceneValue) (plan : Plan) (first : Record) (timelines : List ℕ) (player : PlayerOf B) (ready : IsReady table scene plan first timelines player) where
+module _ {B : Type 0} (table : TableId) (scene : SceneValue) (shows : Shows) (first : Record) (player : PlayerOf B) (ready : IsReady table scene shows first player) where
   -- the first record was written
-  pub has_begun : (a b : Option (List ℕ)) → Writes a b (first ∷ []) → IsWriting table scene plan timelines a b [] player
+  pub has_begun : (a b : Option (List ℕ)) → Writes a b (first ∷ []) → IsWriting table scene shows a (written_at b [] player)
   has_begun a b written = record {
     so = ready.begins.so;
     stands = ready.begins.stands;
-    planned = ready.planned;
-    rising = ready.rising;
+    asked = ready.asked;
     written = subst (Writes a b) (first_alone scene first ready.begins.so.events ready.opens ready.begins.nothing) written;
     shown = All-nil (λ (one : OutputScreen). IsShown (picture_at scene.pictures) one.screen);
   }

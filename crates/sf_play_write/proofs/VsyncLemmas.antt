@@ -5,7 +5,7 @@ use Rattle.std.specs.List.{All, AllZip}
 use Rattle.std.proofs.lemmas.List.Elements.{All-cons, All-nil}
 use Rattle.byteorder.specs.Endian.{big_bytes}
 use Rattle.std.proofs.lemmas.Bool.{false≢true}
-use Rattle.std.proofs.lemmas.List.{drop_at, take_at}
+use Rattle.std.proofs.lemmas.List.{drop_at, map-append, take_at}
 use Rattle.sf_play.specs.sf_commit.declared.vsync.Commit.{Commit}
 use Rattle.sf_output_screen.proofs.sf_compose_lemmas.RowLemmas.{frame_bytes-same}
 use Rattle.sf_output_screen.specs.sf_compose.Again.{ShowsView}
@@ -39,8 +39,8 @@ use Rattle.sf_output_screen.proofs.sf_view_lemmas.ImageLemmas.{view_image-order}
 use Rattle.sf_output_screen.specs.sf_view.Image.{image_in}
 use Rattle.sf_output_screen.specs.sf_view.Stacks.{view_image}
 use Rattle.sf_output_screen.specs.sf_view.Views.{ViewOf}
-use Rattle.sf_play_write.proofs.WritingLemmas.{part_front, part_more, writes_more}
-use Rattle.sf_play_write.specs.Vsyncs.{AreComposed, AreViewsDue, IsComposed, IsViewDue, image_record, pixels_in, pixels_of, records_by, records_if, shown_record, told_by, vsync_shown}
+use Rattle.sf_play_write.proofs.WritingLemmas.{part_front, part_more, part_none, part_whole, writes_more}
+use Rattle.sf_play_write.specs.Vsyncs.{AreComposed, AreOutputsDue, AreSameOutputs, AreViewsDue, CutsVsync, IsComposed, IsViewDue, WritesVsync, image_record, pixels_in, pixels_of, records_by, records_if, shown_record, told_by, vsync_shown, without_image}
 use Rattle.sf_play_write.specs.Writing.{Writes, WritesPart}
 
 pub with_more : (A B : Type 0) (r : Result (Unit {0}) RunFault) → OnOk r A → B → OnOk r (A × B)
@@ -224,6 +224,73 @@ pub vsync_cut : (r : Result (Unit {0}) RunFault) (a b : Option (List ℕ)) (pict
 vsync_cut (Ok u) a b pictures plan timelines report layers views images due composed part = tt
 vsync_cut (Err e) a b pictures plan timelines report layers views images due composed part =
     subst (WritesPart a b) (records_are pictures plan timelines report layers views images due composed) part
+
+-- one more output
+pub outputs_push : {A B : Type 0} (xs : List (Output A)) (ys : List (Output B)) (x : Output A) (y : Output B) → AreSameOutputs xs ys → without_image x ≡ without_image y
+    → AreSameOutputs (xs ++ x ∷ []) (ys ++ y ∷ [])
+outputs_push xs ys x y same one =
+    map-append without_image xs (x ∷ [])
+    ∙ (λ i. same i ++ one i ∷ [])
+    ∙ sym (map-append without_image ys (y ∷ []))
+
+-- other images of the same output
+other_image : {A B : Type 0} (f : A → B) (output : Output A) → without_image (map_output f output) ≡ without_image output
+other_image f (out.Frame a) = refl
+other_image f (out.Display n a) = refl
+other_image f (out.Capture n a) = refl
+other_image f (out.Hit n layer) = refl
+
+pub other_images : {A B : Type 0} (f : A → B) (outputs : List (Output A)) → AreSameOutputs (map (map_output f) outputs) outputs
+other_images f [] = refl
+other_images f (output ∷ outputs) = (λ i. other_image f output i ∷ other_images f outputs i)
+
+-- a view that is due is of the output that is due
+due_output : (due : Output ImageDue) (view : Output SourcedView) → IsOutput IsViewDue due view → without_image due ≡ without_image view
+due_output (out.Frame due) (out.Frame view) is = refl
+due_output (out.Display n due) (out.Display m view) is = ap (λ (k : ℕ). out.Display k tt) is.0
+due_output (out.Capture n due) (out.Capture m view) is = ap (λ (k : ℕ). out.Capture k tt) is.0
+due_output (out.Hit n layer) (out.Hit m there) is = (λ i. out.Hit (is.0 i) (is.1 i))
+due_output _ _ is = absurd is
+
+due_outputs : (dues : List (Output ImageDue)) (views : List (Output SourcedView)) → AllZip (IsOutput IsViewDue) dues views → AreSameOutputs dues views
+due_outputs [] [] are = refl
+due_outputs [] (view ∷ views) are = absurd are
+due_outputs (due ∷ dues) [] are = absurd are
+due_outputs (due ∷ dues) (view ∷ views) are = (λ i. due_output due view are.0 i ∷ due_outputs dues views are.1 i)
+
+-- whichever pixels they have
+module _ (plan : Plan) (timelines : List ℕ) (layers : List Layer) (report : VsyncReport) where
+  abbrev dues : List (Output ImageDue)
+  dues = if shows_frame report.commits then outputs_due plan layers else []
+
+  -- nothing was written of a vsync
+  pub vsync_unbegun : (a : Option (List ℕ)) → CutsVsync plan timelines layers report a a
+  vsync_unbegun a =
+      let shown = map (map_output (λ (_ : ImageDue). [])) dues in
+      record { shown = shown; due = sym (other_images (λ (_ : ImageDue). []) dues); written = part_none a (records_by timelines report shown) }
+
+  module _ (a b : Option (List ℕ)) (views : List (Output SourcedView)) (images : List (Output ScreenOf)) (due : AreViewsDue plan layers report.commits views) (same : AreSameOutputs views images) where
+    are_due : AreOutputsDue plan layers report.commits (pixels_in images)
+    are_due = due_outputs dues views due ∙ same ∙ sym (other_images (λ (screen : ScreenOf). screen.frame) images)
+
+    pub vsync_told : Writes a b (records_by timelines report (pixels_in images)) → WritesVsync plan timelines layers report a b
+    vsync_told written = record { shown = pixels_in images; due = are_due; written = written }
+
+    pub vsync_begun : WritesPart a b (records_by timelines report (pixels_in images)) → CutsVsync plan timelines layers report a b
+    vsync_begun part = record { shown = pixels_in images; due = are_due; written = part }
+
+-- where it succeeded, and where it failed
+pub told_if : {A X : Type 0} (r : Result (Unit {0}) RunFault) → (A → X) → OnOk r A → OnOk r X
+told_if (Ok u) f fact = f fact
+told_if (Err e) f fact = tt
+
+pub begun_if : {A X : Type 0} (r : Result (Unit {0}) RunFault) → (A → X) → OnErr r A → OnErr r X
+begun_if (Ok u) f fact = tt
+begun_if (Err e) f fact = f fact
+
+-- a vsync that was written whole
+pub vsync_whole : (plan : Plan) (timelines : List ℕ) (layers : List Layer) (report : VsyncReport) (a b : Option (List ℕ)) → WritesVsync plan timelines layers report a b → CutsVsync plan timelines layers report a b
+vsync_whole plan timelines layers report a b wrote = record { shown = wrote.shown; due = wrote.due; written = part_whole a b (records_by timelines report wrote.shown) wrote.written }
 
 pub if_ok : {T E : Type 0} (P Q : T → Type 0) (r : Result T E) → ((x : T) → P x → Q x) → IfOk r P → IfOk r Q
 if_ok P Q (Ok x) f p = f x p

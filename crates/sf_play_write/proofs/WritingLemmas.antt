@@ -13,7 +13,7 @@ use Rattle.sf_play.specs.sf_record.declared.encode.RunFault.TheVariants as fault
 use Rattle.sf_play.specs.sf_record.Fitting.{RecordFits}
 use Rattle.sf_play.specs.sf_record.Records.{bytes_of, record_bytes}
 use Rattle.sf_play.specs.sf_record.declared.record.Record.{Record}
-use Rattle.sf_play_write.specs.Writing.{CutSome, Writes, WritesPart, WritesSome}
+use Rattle.sf_play_write.specs.Writing.{CutSome, Writes, WritesPart}
 
 pub one_record : (r : Record) → record_bytes r ≡ bytes_of (r ∷ [])
 unfolding bytes_of
@@ -138,11 +138,7 @@ each_part {X} f r a b c xs i x below is before now =
 pub still_later : (a b c : ℕ) → a ≤ b → b ≤ c → a ≤ c
 still_later a b c p q = omega arith
 
--- some records were written, or a part of them, whichever they are
-pub some_written : (r : Result (Unit {0}) RunFault) (a b : Option (List ℕ)) (rs : List Record) → OnOk r (Writes a b rs) → OnOk r (WritesSome a b)
-some_written (Ok u) a b rs all = record { records = rs; written = all }
-some_written (Err e) a b rs all = tt
-
+-- whole records were written, and then at most one that is cut
 pub cut_part : (a b : Option (List ℕ)) (rs : List Record) → WritesPart a b rs → CutSome a b
 cut_part a b rs part = record { records = take part.begun rs; fits = part.fits; bytes = part.bytes }
 
@@ -152,27 +148,6 @@ some_cut (Err e) a b rs part = cut_part a b rs part
 
 pub cut_none : (a : Option (List ℕ)) → CutSome a a
 cut_none a = cut_part a a [] (part_none a [])
-
-pub some_more : (a b c : Option (List ℕ)) → WritesSome a b → WritesSome b c → WritesSome a c
-some_more a b c first second = record { records = first.records ++ second.records; written = writes_more a b c first.records second.records first.written second.written }
-
-pub cut_more : (a b c : Option (List ℕ)) → WritesSome a b → CutSome b c → CutSome a c
-cut_more a b c first second = record {
-  records = first.records ++ second.records;
-  fits = All-append RecordFits first.records second.records first.written.fits second.fits;
-  bytes = subst (TookPrefix a c) (sym (more_bytes first.records second.records)) (TookPrefix-rest a b c (bytes_of first.records) (bytes_of second.records) first.written.bytes second.bytes);
-}
-
-pub some_whole : (a b : Option (List ℕ)) → WritesSome a b → CutSome a b
-some_whole a b all = cut_part a b all.records (part_whole a b all.records all.written)
-
-pub then_some : (r : Result (Unit {0}) RunFault) (a b c : Option (List ℕ)) → WritesSome a b → OnOk r (WritesSome b c) → OnOk r (WritesSome a c)
-then_some (Ok u) a b c first second = some_more a b c first second
-then_some (Err e) a b c first second = tt
-
-pub then_cut : (r : Result (Unit {0}) RunFault) (a b c : Option (List ℕ)) → WritesSome a b → OnErr r (CutSome b c) → OnErr r (CutSome a c)
-then_cut (Ok u) a b c first second = tt
-then_cut (Err e) a b c first second = cut_more a b c first second
 
 -- records of items that are handed out one after another: these are the first of all
 module _ {X : Type 0} (f : X → Record) where

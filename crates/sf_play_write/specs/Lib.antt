@@ -1,5 +1,6 @@
 pub mod Closings
 pub mod Runs
+pub mod Showing
 pub mod Vsyncs
 pub mod Writing
 pub mod inner

@@ -1,7 +1,9 @@
 -- What is written of a vsync.
-use Rattle.std.specs.Prelude.{◌≡◌, ℕ, true, if◌then◌else◌, is_some, List, [], map}
+use Rattle.std.specs.Prelude.{◌≡◌, ℕ, true, if◌then◌else◌, is_some, List, [], map, Option, Result, OnErr, OnOk}
 use Rattle.std.specs.List.{All, AllZip}
 use Rattle.sf_output_screen.specs.sf_picture.declared.picture.Picture.{Picture}
+use Rattle.sf_play.specs.sf_commit.Handlers.{HandlerOf}
+use Rattle.sf_play.specs.sf_commit.OnLayers.{OnLayer}
 use Rattle.sf_play.specs.sf_commit.declared.vsync.Commit.{Commit}
 use Rattle.sf_output_screen.specs.sf_layer.declared.layer.Layer.{Layer}
 use Rattle.sf_output.specs.Outputs.{IsOutput, OfImage, map_output}
@@ -10,8 +12,9 @@ use Rattle.sf_play.specs.sf_output_plan.Due.{ImageDue, ShowsDue, outputs_due}
 use Rattle.sf_play.specs.sf_output_plan.declared.plan.Plan.{Plan}
 use Rattle.sf_play.specs.sf_record.Events.{output_record, vsync_records}
 use Rattle.sf_play.specs.sf_record.declared.event.VsyncRecords.{VsyncRecords}
+use Rattle.sf_play.specs.sf_record.declared.encode.RunFault.{RunFault}
 use Rattle.sf_play.specs.sf_record.declared.record.Record.{Record}
-use Rattle.sf_play.specs.sf_play_report.Stages.{FindsPictures, IsReadableView, shows_frame}
+use Rattle.sf_play.specs.sf_play_report.Stages.{AreExpected, FindsPictures, IsReadableView, shows_frame}
 use Rattle.sf_play.specs.sf_play_report.declared.report.VsyncReport.{VsyncReport}
 use Rattle.sf_play.specs.sf_play_report.declared.sourced.SourcedView.{SourcedView}
 use Rattle.sf_play.specs.law_played.Commits.{commit_shown}
@@ -20,6 +23,8 @@ use Rattle.sf_play.specs.law_played.Seeing.{value_shown}
 use Rattle.sf_output_screen.specs.ScreenLists.{AreShown}
 use Rattle.sf_output_screen.specs.Screens.{IsShown, ScreenOf, image_bytes}
 use Rattle.sf_output_screen.specs.declared.screens.OutputScreen.{OutputScreen}
+use Rattle.sf_play_write.specs.declared.shows.Shows.{Shows}
+use Rattle.sf_play_write.specs.Writing.{Writes, WritesPart}
 
 -- what the records of a vsync show, which leaves these layers
 abbrev pub told_with : (ℕ → Picture) → Plan → List ℕ → VsyncReport → List Layer → VsyncRecords
@@ -38,6 +43,21 @@ records_if commits told = vsync_records told
 
 abbrev pub vsync_shown : (ℕ → Picture) → Plan → List ℕ → VsyncReport → List Layer → List Record
 vsync_shown pictures plan timelines report layers = records_if report.commits (told_with pictures plan timelines report layers)
+
+-- what was written of a vsync that left this handler, where the buffers on its layers have their pictures: all of its records, and the
+-- screens show its images
+abbrev pub WritesPictured : {L A : Type 0} → (OnLayer L → Picture) → Shows → HandlerOf L → VsyncReport → Option (List ℕ) → Option (List ℕ)
+    → List OutputScreen → List OutputScreen → Result A RunFault → Type 0
+WritesPictured expected shows handler report old new screens shown result =
+    (pictures : ℕ → Picture) → AreExpected expected pictures handler → AreShown pictures screens
+    → OnOk result (Writes old new (vsync_shown pictures shows.plan shows.timelines.items report handler.tree.layers) × AreShown pictures shown)
+
+-- after a fault, a prefix of these
+abbrev pub CutsPictured : {L A : Type 0} → (OnLayer L → Picture) → Shows → HandlerOf L → VsyncReport → Option (List ℕ) → Option (List ℕ)
+    → List OutputScreen → Result A RunFault → Type 0
+CutsPictured expected shows handler report old new screens result =
+    (pictures : ℕ → Picture) → AreExpected expected pictures handler → AreShown pictures screens
+    → OnErr result (WritesPart old new (vsync_shown pictures shows.plan shows.timelines.items report handler.tree.layers))
 
 -- the record of an image, which has these pixels, in a vsync of this number
 abbrev pub image_record : Output (Unit {0}) → ℕ → List ℕ → Record
@@ -75,9 +95,18 @@ pub record IsComposed (pictures : ℕ → Picture) (sourced : SourcedView) (scre
 abbrev pub AreComposed : (ℕ → Picture) → List (Output SourcedView) → List (Output ScreenOf) → Type 0
 AreComposed pictures views images = AllZip (IsOutput (IsComposed pictures)) views images
 
--- These images came of views and contents, on screens among these: each screen showed a view, and where the views find their pictures among
--- the contents, and what the screens showed were images, they are the images of the views.
+-- an output without its image
+abbrev pub without_image : {A : Type 0} → Output A → Output (Unit {0})
+without_image output = map_output (λ _. tt) output
+
+-- the same outputs, place by place, whatever their images are
+abbrev pub AreSameOutputs : {A B : Type 0} → List (Output A) → List (Output B) → Type 0
+AreSameOutputs outputs others = map without_image outputs ≡ map without_image others
+
+-- These images came of views and contents, on screens among these: they are of the views' outputs, each screen showed a view, and where the
+-- views find their pictures among the contents, and what the screens showed were images, they are the images of the views.
 pub record AreImagesOf (contents : List Picture) (views : List (Output SourcedView)) (screens : List OutputScreen) (images : List (Output ScreenOf)) : Type 0 where
+  pub outputs : AreSameOutputs views images
   pub showed : All (OfImage HasView) images
   pub composed : (pictures : ℕ → Picture) → FindPictures pictures contents views → AreShown pictures screens → AreComposed pictures views images
 
@@ -105,3 +134,19 @@ told_by timelines report shown = record {
 
 abbrev pub records_by : List ℕ → VsyncReport → List (Output (List ℕ)) → List Record
 records_by timelines report shown = records_if report.commits (told_by timelines report shown)
+
+-- these are the outputs due of a vsync with these commits, which leaves these layers, whichever pixels their images have
+abbrev pub AreOutputsDue : Plan → List Layer → List Commit → List (Output (List ℕ)) → Type 0
+AreOutputsDue plan layers commits shown = AreSameOutputs (if shows_frame commits then outputs_due plan layers else []) shown
+
+-- the records of a vsync with this report were written, which leaves these layers, whichever pixels its images have
+pub record WritesVsync (plan : Plan) (timelines : List ℕ) (layers : List Layer) (report : VsyncReport) (old new : Option (List ℕ)) : Type 0 where
+  pub shown : List (Output (List ℕ))
+  pub due : AreOutputsDue plan layers report.commits shown
+  pub written : Writes old new (records_by timelines report shown)
+
+-- a prefix of them was written
+pub record CutsVsync (plan : Plan) (timelines : List ℕ) (layers : List Layer) (report : VsyncReport) (old new : Option (List ℕ)) : Type 0 where
+  pub shown : List (Output (List ℕ))
+  pub due : AreOutputsDue plan layers report.commits shown
+  pub written : WritesPart old new (records_by timelines report shown)

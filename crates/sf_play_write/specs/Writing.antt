@@ -18,11 +18,6 @@ pub record WritesPart (old new : Option (List ℕ)) (records : List Record) : Ty
   pub fits : All RecordFits (take begun records)
   pub bytes : TookPrefix old new (bytes_of (take begun records))
 
--- some records were written, whichever they are
-pub record WritesSome (old new : Option (List ℕ)) : Type 0 where
-  pub records : List Record
-  pub written : Writes old new records
-
 -- a prefix of some records was written, whose numbers fit their fields: some whole, and then at most one that is cut
 pub record CutSome (old new : Option (List ℕ)) : Type 0 where
   pub records : List Record

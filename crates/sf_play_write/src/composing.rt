@@ -6,7 +6,7 @@ ghost use Rattle.sf_output.specs.Outputs.{IsOutput, OfImage};
 ghost use Rattle.sf_output_screen.specs.sf_picture.declared.picture.Picture.{Picture};
 ghost use Rattle.sf_play.specs.sf_play_report.Stages.{FindsPictures, IsReadableView};
 ghost use Rattle.sf_output_screen.specs.ScreenLists.{AreShown};
-ghost use Rattle.sf_play_write.specs.Vsyncs.{AreImagesOf, AreReadableViews, HasView, IsComposed, KeepsShown};
+ghost use Rattle.sf_play_write.specs.Vsyncs.{AreImagesOf, AreReadableViews, HasView, IsComposed, KeepsShown, without_image};
 
 use sf_base::NoMemory;
 use sf_output::Output;
@@ -49,6 +49,7 @@ fn compose_output<R: Threads + Sync, C: Pixels + Sync>(
     output: Output<SourcedView>,
 ) -> Result<Output<Screen>, NoMemory>
     requires readable { OfImage (IsReadableView (map C.picture contents.now)) output }
+    ensures output { IfOk result (λ image. without_image output ≡ without_image image) }
     ensures view { IfOk result (OfImage HasView) }
     ensures image { (pictures : ℕ → Picture) → OfImage (FindsPictures pictures (map C.picture contents.now)) output → AreShown pictures screens.old
         → IfOk result (IsOutput (IsComposed pictures) output) }

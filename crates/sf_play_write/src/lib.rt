@@ -4,17 +4,19 @@
 mod closing;
 mod composing;
 mod play;
+mod shows;
 mod vsync;
 mod writing;
 
 pub use closing::write_closing;
 pub use composing::{Beside, compose_beside, compose_views};
-pub use play::{opening, rising_timelines, show_play};
+pub use play::{opening, show_play};
 pub use sf_output::Output;
 pub use sf_output_screen::{Engine, Screen, Screens, Workers};
 pub use sf_play::{
-    Action, ActorSet, Plan, Player, RunFault, SourcedView, VsyncReport, is_time, permits_for,
-    plan_of, reply_record,
+    Action, ActorSet, Player, RunFault, SourcedView, VsyncReport, is_time, permits_for,
+    reply_record,
 };
+pub use shows::Shows;
 pub use vsync::{show_vsync, vsync_views, write_vsync};
 pub use writing::write_made;

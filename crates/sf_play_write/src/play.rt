@@ -1,30 +1,28 @@
 //! A whole play: the record that it begins with, one action of the player after another with the
 //! records of what it did, and the records that end it. It is what `sf_app` calls for a scene that
 //! is played on one thread.
-ghost use Rattle.std.specs.Prelude.{◌≡◌, ◌∷◌, ◌+◌, ◌<◌, ◌≤◌, [], ℕ, All, IfErr, IfOk, IsErrOf, List, OnErr, OnOk, Option, true};
-ghost use Rattle.sf_play.specs.sf_actor.Scripts.{picture_at};
-ghost use Rattle.sf_play.specs.sf_actor_set.Opening.{IsSortedFrom};
+ghost use Rattle.std.specs.Prelude.{◌≡◌, ◌<◌, ◌≤◌, [], ℕ, All, IfOk, IsErrOf, List, OnErr, OnOk, Option, true};
 ghost use Rattle.sf_play.specs.sf_actor_set.Scripts.{permits_of};
 ghost use Rattle.sf_io.specs.Causes.{Rose};
 ghost use Rattle.sf_play.specs.Going.{fuel_of};
 ghost use Rattle.sf_play.specs.law_played.Frames.{plan_of};
 ghost use Rattle.sf_play.specs.law_played.Played.{opening};
 ghost use Rattle.sf_play.specs.sf_script_scene.Scene.{SceneValue};
-ghost use Rattle.sf_output_screen.specs.ScreenLists.{AreShown};
 ghost use Rattle.sf_play_write.specs.Runs.{CutRun, WroteRun};
-ghost use Rattle.sf_play_write.specs.inner.Rows.{HasWritten, IsReady, IsWriting, MayShowAction, GoesOnWriting, newest_shown, action_shown};
+ghost use Rattle.sf_play_write.specs.Showing.{written_at};
+ghost use Rattle.sf_play_write.specs.inner.Rows.{CutsAction, CutsNext, IsReady, IsWriting, MayShowAction, WritesAction, WritesAll, WritesNext, newest_shown};
 ghost use Rattle.sf_play_write.specs.Writing.{Writes, WritesPart};
 ghost use Rattle.sf_play.specs.sf_turns.Counts.{range};
 
 use crate::closing::write_closing;
+use crate::shows::Shows;
 use crate::vsync::show_vsync;
 use crate::writing::write_made;
-use sf_base::NoMemory;
 use sf_io::Sink;
 use sf_output_screen::{Engine, Painted, Screens};
 use sf_play::{
-    Action, Plan, Player, Record, Reply, RunFault, Scene, SceneHeader, Stock, TableName, TurnSeat,
-    plan_of, reply_record,
+    Action, Player, Record, Reply, RunFault, Scene, SceneHeader, Stock, TableName, TurnSeat,
+    reply_record,
 };
 use std::alloc::Global;
 use std::thread::Threads;
@@ -39,16 +37,6 @@ pub fn opening(scene: &Scene) -> Record
         height: scene.height,
         period: scene.period,
     })
-}
-
-/// Timelines by rising number.
-pub fn rising_timelines(alloc: Global, timelines: &[u32]) -> Result<Vec<u32>, NoMemory>
-    ensures { IfOk result (λ rising. IsSortedFrom (λ timeline. timeline) timelines.now rising.items) }
-{
-    let mut rising = Vec::new(alloc);
-    rising.extend_from_slice(timelines)?;
-    rising.sort_unstable();
-    Ok(rising)
 }
 
 /// Writes the record of the newest of these replies, if there is one.
@@ -68,19 +56,15 @@ fn write_newest<K: Sink>(alloc: Global, sink: &mut K, replies: &[Reply]) -> Resu
 fn write_action<R: Threads + Sync, K: Sink, B: TableName>(
     engine: &Engine<R>,
     sink: &mut K,
-    timelines: &[u32],
-    plan: &Plan,
+    shows: &Shows,
     screens: &mut Screens,
     player: &Player<B>,
     action: Action,
 ) -> Result<(), RunFault>
-    requires timelines { All (λ timeline. (1 ≤ timeline) × (timeline ≤ 64)) timelines.now }
-    requires may { (scene : SceneValue) × (plan.now ≡ plan_of scene) × MayShowAction scene action player.now }
-    ensures ok { (scene : SceneValue) → MayShowAction scene action player.now → AreShown (picture_at scene.pictures) screens.old → OnOk result
-        (Writes (K.taken sink.old) (K.taken sink.new) (action_shown (picture_at scene.pictures) plan.now timelines.now player.now.play action)
-        × AreShown (picture_at scene.pictures) screens.new) }
-    ensures err { (scene : SceneValue) → MayShowAction scene action player.now → AreShown (picture_at scene.pictures) screens.old → OnErr result
-        (WritesPart (K.taken sink.old) (K.taken sink.new) (action_shown (picture_at scene.pictures) plan.now timelines.now player.now.play action)) }
+    requires timelines { All (λ timeline. (1 ≤ timeline) × (timeline ≤ 64)) shows.now.timelines.items }
+    requires may { (scene : SceneValue) × (shows.now.plan ≡ plan_of scene) × MayShowAction scene action player.now }
+    ensures ok { WritesAction shows.now player.now action (K.taken sink.old) (K.taken sink.new) screens.old screens.new result }
+    ensures err { CutsAction shows.now player.now action (K.taken sink.old) (K.taken sink.new) screens.old result }
     ensures later { K.faults sink.old ≤ K.faults sink.new }
     ensures failed { IsErrOf result RunFault.WriteFault → Rose (K.faults sink.old) (K.faults sink.new) }
 {
@@ -93,8 +77,7 @@ fn write_action<R: Threads + Sync, K: Sink, B: TableName>(
         Action::Vsync(report) => show_vsync(
             engine,
             sink,
-            timelines,
-            plan,
+            shows,
             screens,
             player.handler(),
             report.into_report(),
@@ -108,16 +91,13 @@ fn write_action<R: Threads + Sync, K: Sink, B: TableName>(
 fn show_action<R: Threads + Sync, K: Sink, B: TableName>(
     engine: &Engine<R>,
     sink: &mut K,
-    timelines: &[u32],
-    plan: &Plan,
+    shows: &Shows,
     screens: &mut Screens,
     player: &mut Player<B>,
 ) -> Result<bool, RunFault>
-    requires writing { (scene : SceneValue) × (start : Option (List ℕ)) × IsWriting B.table scene plan.now timelines.now start (K.taken sink.old) screens.old player.old }
-    ensures on { (scene : SceneValue) (start : Option (List ℕ)) → IsWriting B.table scene plan.now timelines.now start (K.taken sink.old) screens.old player.old
-        → IfOk result (λ goes_on. GoesOnWriting goes_on B.table scene plan.now timelines.now start (K.taken sink.new) screens.new player.new) }
-    ensures err { (scene : SceneValue) (start : Option (List ℕ)) → IsWriting B.table scene plan.now timelines.now start (K.taken sink.old) screens.old player.old
-        → OnErr result (CutRun scene start (K.taken sink.new)) }
+    requires writing { (scene : SceneValue) × (start : Option (List ℕ)) × IsWriting B.table scene shows.now start (written_at (K.taken sink.old) screens.old player.old) }
+    ensures on { WritesNext B.table shows.now (written_at (K.taken sink.old) screens.old player.old) (written_at (K.taken sink.new) screens.new player.new) result }
+    ensures err { CutsNext B.table shows.now (written_at (K.taken sink.old) screens.old player.old) (K.taken sink.new) result }
     ensures less { IfOk result (λ goes_on. goes_on ≡ true → fuel_of player.new < fuel_of player.old) }
     ensures later { K.faults sink.old ≤ K.faults sink.new }
     ensures failed { IsErrOf result RunFault.WriteFault → Rose (K.faults sink.old) (K.faults sink.new) }
@@ -127,7 +107,7 @@ fn show_action<R: Threads + Sync, K: Sink, B: TableName>(
         Err(_) => return Err(RunFault::NoMemory),
     };
     let goes_on = !action.is_end();
-    match write_action(engine, sink, timelines, plan, screens, player, action) {
+    match write_action(engine, sink, shows, screens, player, action) {
         Ok(()) => Ok(goes_on),
         Err(fault) => Err(fault),
     }
@@ -137,21 +117,18 @@ fn show_action<R: Threads + Sync, K: Sink, B: TableName>(
 fn show_actions<R: Threads + Sync, K: Sink, B: TableName>(
     engine: &Engine<R>,
     sink: &mut K,
-    timelines: &[u32],
-    plan: &Plan,
+    shows: &Shows,
     player: &mut Player<B>,
 ) -> Result<(), RunFault>
-    requires writing { (scene : SceneValue) × (start : Option (List ℕ)) × IsWriting B.table scene plan.now timelines.now start (K.taken sink.old) [] player.old }
-    ensures ok { (scene : SceneValue) (start : Option (List ℕ)) → IsWriting B.table scene plan.now timelines.now start (K.taken sink.old) [] player.old
-        → OnOk result (HasWritten B.table scene start (K.taken sink.new) player.new) }
-    ensures err { (scene : SceneValue) (start : Option (List ℕ)) → IsWriting B.table scene plan.now timelines.now start (K.taken sink.old) [] player.old
-        → OnErr result (CutRun scene start (K.taken sink.new)) }
+    requires writing { (scene : SceneValue) × (start : Option (List ℕ)) × IsWriting B.table scene shows.now start (written_at (K.taken sink.old) [] player.old) }
+    ensures ok { WritesAll B.table shows.now (written_at (K.taken sink.old) [] player.old) (K.taken sink.new) player.new result }
+    ensures err { CutsNext B.table shows.now (written_at (K.taken sink.old) [] player.old) (K.taken sink.new) result }
     ensures later { K.faults sink.old ≤ K.faults sink.new }
     ensures failed { IsErrOf result RunFault.WriteFault → Rose (K.faults sink.old) (K.faults sink.new) }
 {
     let mut screens = Screens::new(engine.alloc);
     'actions: loop {
-        match show_action(engine, sink, timelines, plan, &mut screens, player) {
+        match show_action(engine, sink, shows, &mut screens, player) {
             Ok(true) => {}
             Ok(false) => return Ok(()),
             Err(fault) => return Err(fault),
@@ -164,13 +141,12 @@ fn write_play<R: Threads + Sync, K: Sink, B: TableName>(
     engine: &Engine<R>,
     sink: &mut K,
     first: Record,
-    timelines: &[u32],
-    plan: &Plan,
+    shows: &Shows,
     player: &mut Player<B>,
 ) -> Result<(), RunFault>
-    requires ready { (scene : SceneValue) × IsReady B.table scene plan.now first timelines.now player.old }
-    ensures ok { (scene : SceneValue) → IsReady B.table scene plan.now first timelines.now player.old → OnOk result (WroteRun scene (K.taken sink.old) (K.taken sink.new)) }
-    ensures err { (scene : SceneValue) → IsReady B.table scene plan.now first timelines.now player.old → OnErr result (CutRun scene (K.taken sink.old) (K.taken sink.new)) }
+    requires ready { (scene : SceneValue) × IsReady B.table scene shows.now first player.old }
+    ensures ok { (scene : SceneValue) → IsReady B.table scene shows.now first player.old → OnOk result (WroteRun scene (K.taken sink.old) (K.taken sink.new)) }
+    ensures err { (scene : SceneValue) → IsReady B.table scene shows.now first player.old → OnErr result (CutRun scene (K.taken sink.old) (K.taken sink.new)) }
     ensures later { K.faults sink.old ≤ K.faults sink.new }
     ensures failed { IsErrOf result RunFault.WriteFault → Rose (K.faults sink.old) (K.faults sink.new) }
 {
@@ -178,7 +154,7 @@ fn write_play<R: Threads + Sync, K: Sink, B: TableName>(
         Ok(()) => {}
         Err(fault) => return Err(fault),
     }
-    match show_actions(engine, sink, timelines, plan, player) {
+    match show_actions(engine, sink, shows, player) {
         Ok(()) => {}
         Err(fault) => return Err(fault),
     }
@@ -206,18 +182,14 @@ pub fn show_play<R: Threads + Sync, K: Sink, B: TableName>(
     ensures later { K.faults sink.old ≤ K.faults sink.new }
     ensures failed { IsErrOf result RunFault.WriteFault → Rose (K.faults sink.old) (K.faults sink.new) }
 {
-    let timelines = match rising_timelines(engine.alloc, scene.timelines.as_slice()) {
-        Ok(timelines) => timelines,
-        Err(_) => return Err(RunFault::NoMemory),
-    };
-    let plan = match plan_of(engine.alloc, &scene) {
-        Ok(plan) => plan,
+    let shows = match Shows::of_scene(engine.alloc, &scene) {
+        Ok(shows) => shows,
         Err(_) => return Err(RunFault::NoMemory),
     };
     let first = opening(&scene);
     match Player::<B>::new(engine.alloc, scene, seat, stock) {
         Ok(mut player) => {
-            let written = write_play(engine, sink, first, &timelines, &plan, &mut player);
+            let written = write_play(engine, sink, first, &shows, &mut player);
             player.finish();
             written
         }

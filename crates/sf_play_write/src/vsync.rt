@@ -14,10 +14,23 @@ ghost use Rattle.sf_play.specs.sf_play_report.Stages.{AreExpected, IsReadableVie
 ghost use Rattle.sf_play.specs.law_played.Commits.{commit_shown};
 ghost use Rattle.sf_output_screen.specs.ScreenLists.{AreShown};
 ghost use Rattle.sf_output_screen.specs.Screens.{IsShown, is_image};
-ghost use Rattle.sf_play_write.specs.Vsyncs.{AreViewsDue, FindPictures, HasView, image_record, pixels_in, records_by, shown_record, vsync_shown};
-ghost use Rattle.sf_play_write.specs.Writing.{CutSome, Writes, WritesPart, WritesSome};
+ghost use Rattle.sf_play_write.specs.Vsyncs.{
+  AreViewsDue,
+  CutsPictured,
+  CutsVsync,
+  FindPictures,
+  HasView,
+  WritesPictured,
+  WritesVsync,
+  image_record,
+  pixels_in,
+  records_by,
+  shown_record,
+};
+ghost use Rattle.sf_play_write.specs.Writing.{Writes, WritesPart};
 
 use crate::composing::compose_views;
+use crate::shows::Shows;
 use crate::writing::write_made;
 use sf_base::NoMemory;
 use sf_io::Sink;
@@ -239,41 +252,46 @@ pub fn write_vsync<K: Sink>(
     write_outputs(alloc, sink, screens, number, images)
 }
 
-/// Writes the records of a vsync that left this handler, whose pixels are not lent, and shows what the
-/// plan asks for where a transaction was committed and not rejected. A vsync that commits nothing has
-/// no records.
+/// Writes the records of a vsync that left this handler, whose pixels are not lent, and shows what is
+/// asked for where a transaction was committed and not rejected. A vsync that commits nothing has no
+/// records.
 pub fn show_vsync<R: Threads + Sync, K: Sink, L: Lease + Drop>(
     engine: &Engine<R>,
     sink: &mut K,
-    timelines: &[u32],
-    plan: &Plan,
+    shows: &Shows,
     screens: &mut Screens,
     handler: &Handler<L>,
     report: VsyncReport,
 ) -> Result<(), RunFault>
 where
     L::Reading: Drop,
-    requires timelines { All (λ timeline. (1 ≤ timeline) × (timeline ≤ 64)) timelines.now }
+    requires timelines { All (λ timeline. (1 ≤ timeline) × (timeline ≤ 64)) shows.now.timelines.items }
     requires unlent { handler.now.lent ≡ None }
-    requires stage { IsStage (λ one. L.picture one.lease) plan.now handler.now }
-    ensures ok { (pictures : ℕ → Picture) → AreExpected (λ one. L.picture one.lease) pictures handler.now → AreShown pictures screens.old
-        → OnOk result (Writes (K.taken sink.old) (K.taken sink.new) (vsync_shown pictures plan.now timelines.now report handler.now.tree.layers)
-        × AreShown pictures screens.new) }
-    ensures err { (pictures : ℕ → Picture) → AreExpected (λ one. L.picture one.lease) pictures handler.now → AreShown pictures screens.old
-        → OnErr result (WritesPart (K.taken sink.old) (K.taken sink.new) (vsync_shown pictures plan.now timelines.now report handler.now.tree.layers)) }
+    requires stage { IsStage (λ one. L.picture one.lease) shows.now.plan handler.now }
+    ensures ok { WritesPictured (λ one. L.picture one.lease) shows.now handler.now report
+        (K.taken sink.old) (K.taken sink.new) screens.old screens.new result }
+    ensures err { CutsPictured (λ one. L.picture one.lease) shows.now handler.now report
+        (K.taken sink.old) (K.taken sink.new) screens.old result }
 
-    // Whatever the pictures are, records are written, and where it fails whole ones before at most one that is cut.
-    ensures some { OnOk result (WritesSome (K.taken sink.old) (K.taken sink.new)) }
-    ensures cut { OnErr result (CutSome (K.taken sink.old) (K.taken sink.new)) }
+    // Whatever the pictures are, the records of the vsync are written, and where it fails a prefix of them.
+    ensures some { OnOk result (WritesVsync shows.now.plan shows.now.timelines.items handler.now.tree.layers report (K.taken sink.old) (K.taken sink.new)) }
+    ensures cut { OnErr result (CutsVsync shows.now.plan shows.now.timelines.items handler.now.tree.layers report (K.taken sink.old) (K.taken sink.new)) }
     ensures later { K.faults sink.old ≤ K.faults sink.new }
     ensures failed { IsErrOf result RunFault.WriteFault → Rose (K.faults sink.old) (K.faults sink.new) }
 {
-    let views = match vsync_views(engine.alloc, plan, handler, &report) {
+    let views = match vsync_views(engine.alloc, &shows.plan, handler, &report) {
         Ok(views) => views,
         Err(_) => return Err(RunFault::NoMemory),
     };
     match compose_views(engine, screens, handler.contents(), views) {
-        Ok(images) => write_vsync(engine.alloc, sink, timelines, screens, report, images),
+        Ok(images) => write_vsync(
+            engine.alloc,
+            sink,
+            &shows.timelines,
+            screens,
+            report,
+            images,
+        ),
         Err(_) => Err(RunFault::NoMemory),
     }
 }

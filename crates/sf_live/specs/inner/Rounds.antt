@@ -1,6 +1,6 @@
 -- What is written in the rounds behind a run in threads: the vsyncs as they come, and at the end the replies to all steps and the
 -- closing records.
-use Rattle.std.specs.Prelude.{◌≡◌, ℕ, Bool, true, false, List, [], ◌∷◌, map, Option, None, Some, slice_get, slice_set}
+use Rattle.std.specs.Prelude.{◌≡◌, ℕ, Bool, true, false, List, [], ◌∷◌, map, Option, None, Some, slice_get, slice_set, Result, IfOk, OnErr, OnOk}
 use Rattle.std.specs.List.{flat_map}
 use Rattle.atomic_table.specs.Seated.{TableId}
 use Rattle.law_live_order.specs.law_rounds.Rounds.{IsInOrder}
@@ -13,6 +13,7 @@ use Rattle.sf_live_compositor.specs.sf_live_threads.declared.gates.Gates.{Gates}
 use Rattle.sf_live_compositor.specs.sf_record.Events.{events_records}
 use Rattle.sf_live_compositor.specs.sf_record.declared.event.Event.{Event}
 use Rattle.sf_live_compositor.specs.sf_record.declared.event.Event.TheVariants as event
+use Rattle.sf_live_compositor.specs.sf_record.declared.encode.RunFault.{RunFault}
 use Rattle.sf_live_compositor.specs.sf_record.declared.record.Record.{Record}
 use Rattle.sf_live_compositor.specs.sf_record.declared.record.Record.TheVariants as rec
 use Rattle.sf_live_compositor.specs.sf_output_plan.declared.plan.Plan.{Plan}
@@ -28,7 +29,10 @@ use Rattle.sf_live_compositor.specs.sf_play.Standing.{StandsInRun}
 use Rattle.sf_live_compositor.specs.sf_play.declared.action.Action.{Action}
 use Rattle.sf_live_compositor.specs.sf_play.declared.action.Action.TheVariants as action
 use Rattle.sf_live_compositor.specs.sf_play_write.Vsyncs.{vsync_shown}
-use Rattle.sf_live_compositor.specs.sf_play_write.Writing.{Writes}
+use Rattle.sf_live_compositor.specs.sf_play_write.Showing.{Written}
+use Rattle.sf_live_compositor.specs.sf_play_write.declared.shows.Shows.{Shows}
+use Rattle.sf_live_compositor.specs.sf_play_write.Writing.{Writes, WritesPart}
+use Rattle.sf_live.specs.Runs.{CutLive, LiveEnded, WroteLive}
 
 -- the vsyncs among events, alone
 abbrev pub vsyncs_alone : List Event → List Event
@@ -44,6 +48,20 @@ module _ {B : Type 0} where
   abbrev pub MayWriteAction : SceneValue → Plan → Action → PlayerOf B → Type 0
   MayWriteAction scene plan (action.Vsync report) player = (plan ≡ plan_of scene) × TellsStage scene player.play
   MayWriteAction scene plan other player = Unit {0}
+
+  -- what was written of an action that a player came to, where it can be written: all of its records, and the screens show images still
+  abbrev pub WritesAction : {A : Type 0} → Shows → PlayerOf B → Action → Option (List ℕ) → Option (List ℕ) → List OutputScreen → List OutputScreen
+      → Result A RunFault → Type 0
+  WritesAction shows player came_to old new screens shown result =
+      (scene : SceneValue) → MayWriteAction scene shows.plan came_to player → AreShown (picture_at scene.pictures) screens
+      → OnOk result (Writes old new (action_written (picture_at scene.pictures) shows.plan shows.timelines.items player came_to)
+      × AreShown (picture_at scene.pictures) shown)
+
+  -- after a fault, a prefix of these
+  abbrev pub CutsAction : {A : Type 0} → Shows → PlayerOf B → Action → Option (List ℕ) → Option (List ℕ) → List OutputScreen → Result A RunFault → Type 0
+  CutsAction shows player came_to old new screens result =
+      (scene : SceneValue) → MayWriteAction scene shows.plan came_to player → AreShown (picture_at scene.pictures) screens
+      → OnErr result (WritesPart old new (action_written (picture_at scene.pictures) shows.plan shows.timelines.items player came_to))
 
   -- The vsyncs of a run so far are written behind what was there before, and the screens have the last frames; the player stands in
   -- the run, and what happened in it is in one order.
@@ -69,6 +87,44 @@ module _ {B : Type 0} where
   abbrev pub ShowsOn : Bool → TableId → SceneValue → Plan → List ℕ → Option (List ℕ) → Option (List ℕ) → List OutputScreen → PlayerOf B → Type 0
   ShowsOn true table scene plan timelines start now screens player = HasShown table scene plan timelines start now screens player
   ShowsOn false table scene plan timelines start now screens player = HasShownAll table scene start now player
+
+  -- the vsyncs of a run so far are written, which shows this
+  abbrev pub HasShownBy : TableId → SceneValue → Shows → Option (List ℕ) → Written B → Type 0
+  HasShownBy table scene shows start now = HasShown table scene shows.plan shows.timelines.items start now.taken now.screens now.player
+
+  -- the next action of such a run was written, too
+  abbrev pub ShowsNext : TableId → Shows → Written B → Written B → Result Bool RunFault → Type 0
+  ShowsNext table shows before after result =
+      (scene : SceneValue) (start : Option (List ℕ)) → HasShownBy table scene shows start before
+      → IfOk result (λ goes_on. ShowsOn goes_on table scene shows.plan shows.timelines.items start after.taken after.screens after.player)
+
+  -- all of its rounds were
+  abbrev pub ShowsRounds : {A : Type 0} → TableId → Shows → Written B → Option (List ℕ) → PlayerOf B → Result A RunFault → Type 0
+  ShowsRounds table shows before now player result =
+      (scene : SceneValue) (start : Option (List ℕ)) → HasShownBy table scene shows start before → OnOk result (HasShownAll table scene start now player)
+
+  -- after a fault, a prefix of its records
+  abbrev pub CutsRounds : {A : Type 0} → TableId → Shows → Written B → Option (List ℕ) → Result A RunFault → Type 0
+  CutsRounds table shows before now result =
+      (tells : Bool) (scene : SceneValue) (start : Option (List ℕ)) → HasShownBy table scene shows start before → OnErr result (CutLive tells scene start now)
+
+  -- such a run was written to its end
+  abbrev pub WritesRun : {A : Type 0} → TableId → Shows → Written B → Option (List ℕ) → Result A RunFault → Type 0
+  WritesRun table shows before now result =
+      (scene : SceneValue) (start : Option (List ℕ)) → HasShownBy table scene shows start before
+      → OnOk result (WroteLive (home_in before.player.play).tells scene start now)
+
+  -- after a fault, a prefix of its records
+  abbrev pub CutsRun : {A : Type 0} → TableId → Shows → Written B → Option (List ℕ) → Result A RunFault → Type 0
+  CutsRun table shows before now result =
+      (scene : SceneValue) (start : Option (List ℕ)) → HasShownBy table scene shows start before
+      → OnErr result (CutLive (home_in before.player.play).tells scene start now)
+
+  -- how such a run ended; the counts are those of the sink's faults
+  abbrev pub EndsShown : {A : Type 0} → TableId → Shows → Written B → Result A RunFault → Option (List ℕ) → ℕ → ℕ → Type 0
+  EndsShown table shows before result now count later =
+      (scene : SceneValue) (start : Option (List ℕ)) → HasShownBy table scene shows start before
+      → LiveEnded (home_in before.player.play).tells scene result start now count later
 
   -- the records of the replies to the steps of an actor, and those of all actors
   abbrev pub reply_records : Actor B → List Record

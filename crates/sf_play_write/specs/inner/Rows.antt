@@ -1,19 +1,17 @@
 -- What is written of the actions of a play.
-use Rattle.std.specs.Prelude.{◌≡◌, ℕ, ◌<◌, Bool, true, false, List, [], ◌∷◌, length, Option, None, Some, slice_get}
+use Rattle.std.specs.Prelude.{◌≡◌, ℕ, ◌<◌, Bool, true, false, List, [], ◌∷◌, length, Option, None, Some, slice_get, Result, IfOk, OnErr, OnOk}
 use Rattle.atomic_table.specs.Seated.{TableId}
 use Rattle.sf_output_screen.specs.sf_picture.declared.picture.Picture.{Picture}
-use Rattle.sf_play.specs.sf_output_plan.declared.plan.Plan.{Plan}
 use Rattle.sf_play.specs.sf_script_scene.Scene.{SceneValue}
 use Rattle.sf_play.specs.sf_actor.Scripts.{picture_at}
 use Rattle.sf_play.specs.sf_actor.declared.tried.Reply.{Reply}
 use Rattle.sf_play.specs.sf_actor_steps.declared.actor.Actor.{Actor}
 use Rattle.sf_play.specs.sf_record.Events.{events_records}
+use Rattle.sf_play.specs.sf_record.declared.encode.RunFault.{RunFault}
 use Rattle.sf_play.specs.sf_record.declared.record.Record.{Record}
 use Rattle.sf_play.specs.sf_record.declared.record.Record.TheVariants as rec
 use Rattle.sf_play.specs.law_played.Played.{opening}
 use Rattle.sf_play.specs.law_played.Replies.{reply_shown}
-use Rattle.sf_play.specs.law_played.Vsyncs.{rising_timelines}
-use Rattle.sf_play.specs.law_played.Frames.{plan_of}
 use Rattle.sf_output_screen.specs.ScreenLists.{AreShown}
 use Rattle.sf_output_screen.specs.declared.screens.OutputScreen.{OutputScreen}
 use Rattle.sf_play.specs.Going.{EndsPlay, TellsStage}
@@ -21,8 +19,11 @@ use Rattle.sf_play.specs.Players.{PlayOf, PlayerOf, SoFar}
 use Rattle.sf_play.specs.Standing.{Begins, StandsAlong}
 use Rattle.sf_play.specs.declared.action.Action.{Action}
 use Rattle.sf_play.specs.declared.action.Action.TheVariants as action
+use Rattle.sf_play_write.specs.declared.shows.Shows.{Shows}
+use Rattle.sf_play_write.specs.Runs.{CutRun}
+use Rattle.sf_play_write.specs.Showing.{IsOfScene, Written}
 use Rattle.sf_play_write.specs.Vsyncs.{vsync_shown}
-use Rattle.sf_play_write.specs.Writing.{Writes}
+use Rattle.sf_play_write.specs.Writing.{Writes, WritesPart}
 
 -- the record of the newest reply, if there is one
 abbrev pub newest_shown : List Reply → List Record
@@ -35,11 +36,11 @@ module _ {B : Type 0} where
   newest_of None = []
   newest_of (Some actor) = newest_shown actor.replies.items
 
-  -- the records of an action that a play of this plan comes to, after which it stands so
-  abbrev pub action_shown : (ℕ → Picture) → Plan → List ℕ → PlayOf B → Action → List Record
-  action_shown pictures plan timelines play (action.Step place) = newest_of (slice_get play.actor_set.actors place)
-  action_shown pictures plan timelines play (action.Vsync report) = vsync_shown pictures plan timelines report play.handler.tree.layers
-  action_shown pictures plan timelines play other = []
+  -- the records of an action that a play comes to which shows this, after which it stands so
+  abbrev pub action_shown : (ℕ → Picture) → Shows → PlayOf B → Action → List Record
+  action_shown pictures shows play (action.Step place) = newest_of (slice_get play.actor_set.actors place)
+  action_shown pictures shows play (action.Vsync report) = vsync_shown pictures shows.plan shows.timelines.items report play.handler.tree.layers
+  action_shown pictures shows play other = []
 
   -- an action can be shown: its actor is there, and its vsync left what is to be shown
   abbrev pub MayShowAction : SceneValue → Action → PlayerOf B → Type 0
@@ -47,16 +48,27 @@ module _ {B : Type 0} where
   MayShowAction scene (action.Vsync report) player = TellsStage scene player.play
   MayShowAction scene other player = Unit {0}
 
+  -- what was written of an action that a player came to, where it can be shown: all of its records, and the screens show images still
+  abbrev pub WritesAction : {A : Type 0} → Shows → PlayerOf B → Action → Option (List ℕ) → Option (List ℕ) → List OutputScreen → List OutputScreen
+      → Result A RunFault → Type 0
+  WritesAction shows player came_to old new screens shown result =
+      (scene : SceneValue) → MayShowAction scene came_to player → AreShown (picture_at scene.pictures) screens
+      → OnOk result (Writes old new (action_shown (picture_at scene.pictures) shows player.play came_to) × AreShown (picture_at scene.pictures) shown)
+
+  -- after a fault, a prefix of these
+  abbrev pub CutsAction : {A : Type 0} → Shows → PlayerOf B → Action → Option (List ℕ) → Option (List ℕ) → List OutputScreen → Result A RunFault → Type 0
+  CutsAction shows player came_to old new screens result =
+      (scene : SceneValue) → MayShowAction scene came_to player → AreShown (picture_at scene.pictures) screens
+      → OnErr result (WritesPart old new (action_shown (picture_at scene.pictures) shows player.play came_to))
+
   -- What a play has shown so far is written behind what was there: the player stands along with the play of the scene, and each
   -- screen has its last frame.
-  pub record IsWriting (table : TableId) (scene : SceneValue) (plan : Plan) (timelines : List ℕ) (start now : Option (List ℕ))
-      (screens : List OutputScreen) (player : PlayerOf B) : Type 0 where
+  pub record IsWriting (table : TableId) (scene : SceneValue) (shows : Shows) (start : Option (List ℕ)) (now : Written B) : Type 0 where
     pub so : SoFar B
-    pub stands : StandsAlong table scene so player
-    pub planned : plan ≡ plan_of scene
-    pub rising : timelines ≡ rising_timelines scene
-    pub written : Writes start now (opening scene ∷ events_records so.events)
-    pub shown : AreShown (picture_at scene.pictures) screens
+    pub stands : StandsAlong table scene so now.player
+    pub asked : IsOfScene scene shows
+    pub written : Writes start now.taken (opening scene ∷ events_records so.events)
+    pub shown : AreShown (picture_at scene.pictures) now.screens
 
   -- the same at the end of the play, of whose records only the last ones are to come
   pub record HasWritten (table : TableId) (scene : SceneValue) (start now : Option (List ℕ)) (player : PlayerOf B) : Type 0 where
@@ -65,14 +77,29 @@ module _ {B : Type 0} where
     pub written : Writes start now (opening scene ∷ events_records so.events)
     pub ends : EndsPlay scene so player
 
-  -- a play that is to begin, with its plan, its first record and the timelines by rising number
-  pub record IsReady (table : TableId) (scene : SceneValue) (plan : Plan) (first : Record) (timelines : List ℕ) (player : PlayerOf B) : Type 0 where
+  -- a play that is to begin, with what it shows and its first record
+  pub record IsReady (table : TableId) (scene : SceneValue) (shows : Shows) (first : Record) (player : PlayerOf B) : Type 0 where
     pub begins : Begins table scene player
-    pub planned : plan ≡ plan_of scene
+    pub asked : IsOfScene scene shows
     pub opens : first ≡ opening scene
-    pub rising : timelines ≡ rising_timelines scene
 
   -- an action was written: there are more to come, or the play is at its end
-  abbrev pub GoesOnWriting : Bool → TableId → SceneValue → Plan → List ℕ → Option (List ℕ) → Option (List ℕ) → List OutputScreen → PlayerOf B → Type 0
-  GoesOnWriting true table scene plan timelines start now screens player = IsWriting table scene plan timelines start now screens player
-  GoesOnWriting false table scene plan timelines start now screens player = HasWritten table scene start now player
+  abbrev pub GoesOnWriting : Bool → TableId → SceneValue → Shows → Option (List ℕ) → Written B → Type 0
+  GoesOnWriting true table scene shows start now = IsWriting table scene shows start now
+  GoesOnWriting false table scene shows start now = HasWritten table scene start now.taken now.player
+
+  -- the next action of a play that is written was written, too
+  abbrev pub WritesNext : TableId → Shows → Written B → Written B → Result Bool RunFault → Type 0
+  WritesNext table shows before after result =
+      (scene : SceneValue) (start : Option (List ℕ)) → IsWriting table scene shows start before
+      → IfOk result (λ goes_on. GoesOnWriting goes_on table scene shows start after)
+
+  -- after a fault, a prefix of the records of the play was
+  abbrev pub CutsNext : {A : Type 0} → TableId → Shows → Written B → Option (List ℕ) → Result A RunFault → Type 0
+  CutsNext table shows before now result =
+      (scene : SceneValue) (start : Option (List ℕ)) → IsWriting table scene shows start before → OnErr result (CutRun scene start now)
+
+  -- all actions of a play that is written were written
+  abbrev pub WritesAll : {A : Type 0} → TableId → Shows → Written B → Option (List ℕ) → PlayerOf B → Result A RunFault → Type 0
+  WritesAll table shows before now player result =
+      (scene : SceneValue) (start : Option (List ℕ)) → IsWriting table scene shows start before → OnOk result (HasWritten table scene start now player)

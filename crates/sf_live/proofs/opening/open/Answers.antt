@@ -43,7 +43,7 @@ returns-clause-may g c =
       unused = shared.nothing;
       few =
           subst (λ (actors : List (Actor g.row.B.Denot)). length actors ≤ 64) (sym c.into_parts-pictures.ensures.actors)
-          (few_opened g.B.TableName.table (picture_at actor_set.pictures) (home_of actor_set.desk) (view_of actor_set.desk) actor_set.actors opens.declared c.args.stock.buffers opens.keep
+          (few_opened g.B.TableName.table (picture_at actor_set.pictures) (home_of actor_set.desk) (view_of actor_set.desk) actor_set.actors opens.declared c.args.turns.stock.buffers opens.keep
           (All-permutation (λ (script : ActorScript). script.number ≤ 64) c.args.scripts opens.declared opens.sorted.permutation c.requires.numbers) kept.numbered
           (subst IsStrictlyIncreasing (sym (numbers_same actor_set.actors)) kept.rising));
       rising =
@@ -52,7 +52,7 @@ returns-clause-may g c =
       newcomers =
           subst (λ (actors : List (Actor g.row.B.Denot)). AllByRecursion (IsNewcomer g.B.TableName.table locks c.into_parts-pictures.result.0 seats) actors) (sym c.into_parts-pictures.ensures.actors)
           (subst (λ (pictures : List Picture). AllByRecursion (IsNewcomer g.B.TableName.table locks pictures seats) actor_set.actors) (sym c.into_parts-pictures.ensures.pictures)
-          (newcomers g.B.TableName.table locks actor_set.pictures seats (home_of actor_set.desk) (view_of actor_set.desk) actor_set.actors opens.declared c.args.stock.buffers shared.nothing
+          (newcomers g.B.TableName.table locks actor_set.pictures seats (home_of actor_set.desk) (view_of actor_set.desk) actor_set.actors opens.declared c.args.turns.stock.buffers shared.nothing
           (shared.marks ∙ ap (λ (d : PlainOf g.row.B.Denot). map mark_of d.queues) c.into_parts-pictures.ensures.desk) opens.keep kept.plays));
     }
 
@@ -74,11 +74,11 @@ returns-clause-opens g c = λ of fresh sized.
           ∙ marks_opened of.scene actor_set.desk.queues of.limits (subst (λ (queues : List QueueDecl). OpensQueues queues actor_set.desk.queues) (sym of.queues_of) opens.queues_opened);
       declared = opens.declared;
       sorted = subst (λ (scripts : List ActorScript). IsSortedFrom (λ (script : ActorScript). script.number) scripts opens.declared) (sym of.scripts_of) opens.sorted;
-      stock = c.args.stock.buffers;
-      once = stock_once c.args.stock.buffers (permits_of c.args.scripts) c.requires.whole;
-      below = stock_below c.args.stock.buffers (permits_of c.args.scripts) g.B.TableName.table.slots c.requires.whole sized;
-      actors = subst (λ (actors : List (Actor g.row.B.Denot)). AllZip (IsActor g.B.TableName.table) actors (new_actors opens.declared c.args.stock.buffers)) (sym parts.actors)
-          (are_actors g.B.TableName.table (picture_at actor_set.pictures) (home_of actor_set.desk) (view_of actor_set.desk) actor_set.actors (new_actors opens.declared c.args.stock.buffers) opens.keep);
+      stock = c.args.turns.stock.buffers;
+      once = stock_once c.args.turns.stock.buffers (permits_of c.args.scripts) c.requires.whole;
+      below = stock_below c.args.turns.stock.buffers (permits_of c.args.scripts) g.B.TableName.table.slots c.requires.whole sized;
+      actors = subst (λ (actors : List (Actor g.row.B.Denot)). AllZip (IsActor g.B.TableName.table) actors (new_actors opens.declared c.args.turns.stock.buffers)) (sym parts.actors)
+          (are_actors g.B.TableName.table (picture_at actor_set.pictures) (home_of actor_set.desk) (view_of actor_set.desk) actor_set.actors (new_actors opens.declared c.args.turns.stock.buffers) opens.keep);
       newcomers = subst (λ (pictures : List Picture). AllByRecursion (IsNewcomer g.B.TableName.table c.in_ok-locks.locks pictures c.in_ok-locks.first.seats) c.into_parts-pictures.result.1.items) pictured
           (returns-clause-may g c).newcomers;
       none_taken = shared.took;

@@ -7,12 +7,13 @@ use Rattle.sf_live.proofs.GoingOn.{has_shown, same_player, tells_joined}
 use Rattle.sf_live.proofs.resuming.go_on.Goals as goal
 
 pub returns-clause-shown : goal.returns-clause-shown
-returns-clause-shown g c = λ run locks start t goes.
-    has_shown _ g.B.TableName.table run locks c.args.joined start c.args.period c.args.order c.args.handler c.args.vsyncs t goes
+returns-clause-shown g c = λ run locks start both.
+    let t = both.0 in
+    has_shown _ g.B.TableName.table run locks c.args.joined start c.args.period c.args.order c.args.handler c.args.vsyncs t both.1
     (record { plain = λ a b e. e; picture = λ a b e. e; number = λ a b e. ap (λ (p : ℕ × ℕ). p.1) e }) (λ eye l knows. knows)
-    (c.buffers_among_threads_have_their_pictures.ensures run.scene run.scene.period (most_layers run.scene.version) locks run.last t.ends t.desk t.is) c.resume-player.result c.resume-player.ensures
-    (c.a_run_in_threads_goes_on.ensures.in_run run.scene run.scene.period (most_layers run.scene.version) locks run.last t.ends t.desk t.is t.few)
-    (c.what_threads_did_is_played.ensures.vsyncs run.scene run.scene.period (most_layers run.scene.version) locks run.last t.ends t.desk t.is)
+    (c.buffers_among_threads_have_their_pictures.ensures (record { scene = run.scene; period = run.scene.period; most = most_layers run.scene.version; locks = locks; last = run.last; ends = t.ends; desk = t.desk; is = t.is })) c.resume-player.result c.resume-player.ensures
+    (c.a_run_in_threads_goes_on.ensures.in_run (record { scene = run.scene; period = run.scene.period; most = most_layers run.scene.version; locks = locks; last = run.last; ends = t.ends; desk = t.desk; is = t.is }) t.few)
+    (c.what_threads_did_is_played.ensures.vsyncs (record { scene = run.scene; period = run.scene.period; most = most_layers run.scene.version; locks = locks; last = run.last; ends = t.ends; desk = t.desk; is = t.is }))
 
 pub resume-player-requires : goal.resume-player-requires
 resume-player-requires g c =
@@ -20,7 +21,7 @@ resume-player-requires g c =
     let locks = c.requires.goes.1 in
     let t = c.requires.goes.3.0 in
     subst (IsStanding g.B.TableName.table) (sym (same_player _ g.B.TableName.table run locks c.args.joined c.requires.goes.2 c.args.period c.args.order c.args.handler c.args.vsyncs t c.requires.goes.3.1))
-    (c.a_run_in_threads_goes_on.ensures.standing run.scene run.scene.period (most_layers run.scene.version) locks run.last t.ends t.desk t.is t.few)
+    (c.a_run_in_threads_goes_on.ensures.standing (record { scene = run.scene; period = run.scene.period; most = most_layers run.scene.version; locks = locks; last = run.last; ends = t.ends; desk = t.desk; is = t.is }) t.few)
 
 pub returns-clause-told : goal.returns-clause-told
 returns-clause-told g c = λ run locks t.

@@ -8,7 +8,7 @@ use Rattle.sf_live_compositor.specs.sf_actor.Plain.{home_of, view_of}
 use Rattle.sf_live_compositor.specs.sf_actor_set.ActorSets.{KeepAs}
 use Rattle.sf_live_compositor.specs.sf_play.Players.{PlayerOf, SoFar, home_in}
 use Rattle.sf_live_compositor.specs.sf_play.Standing.{StandsInRun}
-use Rattle.sf_live.specs.inner.Rounds.{ShowsOn, action_written}
+use Rattle.sf_live.specs.inner.Rounds.{ShowsOn}
 use Rattle.sf_live_compositor.specs.sf_actor.Scripts.{picture_at}
 use Rattle.sf_live_compositor.proofs.sf_play_write_lemmas.ClosingLemmas.{few_steps}
 use Rattle.sf_live_compositor.proofs.sf_play_write_lemmas.ActionLemmas.{timelines_within}
@@ -29,29 +29,29 @@ pass_gate-requires-clause-few g c = λ place actor below.
     few_steps g.B.TableName.table c.requires.shown.0 has.so c.args.player.now has.stands place actor below
 
 pub returns-in-Err-clause-err : goal.returns-in-Err-clause-err
-returns-in-Err-clause-err g c = λ scene start has. cut_before g.B.TableName.table scene c.args.plan.now c.args.timelines.now start _ c.args.screens.now c.args.player.now has
+returns-in-Err-clause-err g c = λ tells scene start has. cut_before tells g.B.TableName.table scene c.args.shows.now.plan c.args.shows.now.timelines.items start _ c.args.screens.now c.args.player.now has
 
 pub write_action-requires-clause-timelines : goal.write_action-requires-clause-timelines
 write_action-requires-clause-timelines g c = λ lives outlives.
     let has = c.requires.shown.2 in
-    timelines_within c.requires.shown.0 c.args.timelines.now has.stands.stands.stands.of_scene.limits has.rising
+    timelines_within c.requires.shown.0 c.args.shows.now.timelines.items has.stands.stands.stands.of_scene.limits has.rising
 
 pub write_action-requires-clause-may : goal.write_action-requires-clause-may
 write_action-requires-clause-may g c = λ lives outlives.
     let has = c.requires.shown.2 in
-    (c.requires.shown.0, may_write g.B.TableName.table c.requires.shown.0 c.args.plan.now has.so c.in-Ok.action c.next.new.self has.planned (c.in-Ok.ensures.on c.requires.shown.0 has.so has.stands))
+    (c.requires.shown.0, may_write g.B.TableName.table c.requires.shown.0 c.args.shows.now.plan has.so c.in-Ok.action c.next.new.self has.planned (c.in-Ok.ensures.on c.requires.shown.0 has.so has.stands))
 
 pub returns-in-Ok-write_action-clause-on : goal.returns-in-Ok-write_action-clause-on
 returns-in-Ok-write_action-clause-on g c = λ scene start has.
     let goes = c.in-Ok.ensures.on scene has.so has.stands in
-    let may = may_write g.B.TableName.table scene c.args.plan.now has.so c.in-Ok.action c.next.new.self has.planned goes in
+    let may = may_write g.B.TableName.table scene c.args.shows.now.plan has.so c.in-Ok.action c.next.new.self has.planned goes in
     let now = c.in-Ok-write_action.ensures.ok scene may has.shown in
     let takes = c.in-Ok.ensures.acts has.so.actors (keeps_now g.B.TableName.table scene has.so c.args.player.now has.stands) in
     let ordered = keeps_order _ (record { plain = λ a b e. e; picture = λ a b e. e; number = λ a b e. ap (λ (p : ℕ × ℕ). p.1) e }) g.B.TableName.table scene has.so c.args.player.now c.next.new.self c.in-Ok.action
     (home_in c.args.player.now.play).tells has.stands takes goes has.in_order in
     let in_order = subst (λ (tells : Bool). IsInOrder tells scene goes.later c.next.new.self.play) (sym c.in-Ok.ensures.told) ordered in
-    subst (λ (b : Bool). ShowsOn (not b) g.B.TableName.table scene c.args.plan.now c.args.timelines.now start (g.K.Sink.taken c.write_action.new.sink) c.write_action.new.screens c.next.new.self) (sym c.is_end-goes_on.ensures)
-    (shows_on g.B.TableName.table scene c.args.plan.now c.args.timelines.now start (g.K.Sink.taken c.args.sink.now) (g.K.Sink.taken c.write_action.new.sink) c.args.screens.now c.write_action.new.screens
+    subst (λ (b : Bool). ShowsOn (not b) g.B.TableName.table scene c.args.shows.now.plan c.args.shows.now.timelines.items start (g.K.Sink.taken c.write_action.new.sink) c.write_action.new.screens c.next.new.self) (sym c.is_end-goes_on.ensures)
+    (shows_on g.B.TableName.table scene c.args.shows.now.plan c.args.shows.now.timelines.items start (g.K.Sink.taken c.args.sink.now) (g.K.Sink.taken c.write_action.new.sink) c.args.screens.now c.write_action.new.screens
     c.args.player.now c.next.new.self c.in-Ok.action has goes in_order now.0 now.1)
 
 pub returns-in-Ok-write_action-clause-gates : goal.returns-in-Ok-write_action-clause-gates
@@ -61,11 +61,11 @@ returns-in-Ok-write_action-clause-gates g c =
     turned _ g.B.TableName.table has.so.actors c.args.player.now c.next.new.self c.in-Ok.action c.args.gates.now c.pass_gate.new.gates keep c.requires.gates (c.in-Ok.ensures.acts has.so.actors keep) c.pass_gate.ensures.passed
 
 pub returns-in-Err-write_action-clause-err : goal.returns-in-Err-write_action-clause-err
-returns-in-Err-write_action-clause-err g c = λ scene start has.
+returns-in-Err-write_action-clause-err g c = λ tells scene start has.
     let goes = c.in-Ok.ensures.on scene has.so has.stands in
-    let may = may_write g.B.TableName.table scene c.args.plan.now has.so c.in-Ok.action c.next.new.self has.planned goes in
-    action_cut g.B.TableName.table scene c.args.plan.now c.args.timelines.now start (g.K.Sink.taken c.args.sink.now) (g.K.Sink.taken c.write_action.new.sink) c.args.screens.now c.args.player.now
-    (action_written (picture_at scene.pictures) c.args.plan.now c.args.timelines.now c.next.new.self c.in-Ok.action) has (c.in-Err-write_action.ensures.err scene may has.shown)
+    let may = may_write g.B.TableName.table scene c.args.shows.now.plan has.so c.in-Ok.action c.next.new.self has.planned goes in
+    action_cut tells g.B.TableName.table scene c.args.shows.now.plan c.args.shows.now.timelines.items start (g.K.Sink.taken c.args.sink.now) (g.K.Sink.taken c.write_action.new.sink) c.args.screens.now c.args.player.now
+    c.next.new.self c.in-Ok.action has goes (c.in-Err-write_action.ensures.err scene may has.shown)
 
 pub returns-in-Ok-write_action-clause-told : goal.returns-in-Ok-write_action-clause-told
 returns-in-Ok-write_action-clause-told g c = c.in-Ok.ensures.told

@@ -10,8 +10,8 @@ use Rattle.sf_live.proofs.rounds.show_rounds.Given as goal
 abbrev pub invariant-actions : goal.invariant-actions
 invariant-actions g l =
     ((scene : SceneValue) (start : Option (List ℕ))
-    → HasShown g.B.TableName.table scene l.plan l.timelines start (g.K.Sink.taken l.initial.sink) l.initial.screens l.initial.player
-    → HasShown g.B.TableName.table scene l.plan l.timelines start (g.K.Sink.taken l.sink) l.screens l.player)
+    → HasShown g.B.TableName.table scene l.shows.plan l.shows.timelines.items start (g.K.Sink.taken l.initial.sink) l.initial.screens l.initial.player
+    → HasShown g.B.TableName.table scene l.shows.plan l.shows.timelines.items start (g.K.Sink.taken l.sink) l.screens l.player)
     × HavePassed l.player.play.actor_set.actors l.gates
     × (g.K.Sink.faults l.initial.sink ≤ g.K.Sink.faults l.sink)
     × ((home_in l.player.play).tells ≡ (home_in l.initial.player.play).tells)

@@ -17,32 +17,32 @@ show_vsync-requires-clause-unlent g c κs within = ap (λ (h : HandlerOf ReadLea
 
 pub show_vsync-requires-clause-stage : goal.show_vsync-requires-clause-stage
 show_vsync-requires-clause-stage g c κs within =
-    let tells = subst (λ (t : Action). MayWriteAction c.requires.may.0 c.args.plan.now t c.args.player.now) c.in-Vsync.is c.requires.may.1 in
-    stage_told c.requires.may.0 c.args.plan.now c.args.player.now c.handler.result.now tells c.handler.ensures.handler
+    let tells = subst (λ (t : Action). MayWriteAction c.requires.may.0 c.args.shows.now.plan t c.args.player.now) c.in-Vsync.is c.requires.may.1 in
+    stage_told c.requires.may.0 c.args.shows.now.plan c.args.player.now c.handler.result.now tells c.handler.ensures.handler
 
 pub returns-in-Vsync-clause-ok : goal.returns-in-Vsync-clause-ok
 returns-in-Vsync-clause-ok g c = λ scene may shown.
-    let tells = subst (λ (t : Action). MayWriteAction scene c.args.plan.now t c.args.player.now) c.in-Vsync.is may in
+    let tells = subst (λ (t : Action). MayWriteAction scene c.args.shows.now.plan t c.args.player.now) c.in-Vsync.is may in
     let wrote =
-    subst (λ (r : VsyncReport). OnOk c.show_vsync.result (Writes (g.K.Sink.taken c.args.sink.now) (g.K.Sink.taken c.show_vsync.new.sink) (vsync_shown (picture_at scene.pictures) c.args.plan.now c.args.timelines.now r c.handler.result.now.tree.layers) × AreShown (picture_at scene.pictures) c.show_vsync.new.screens))
+    subst (λ (r : VsyncReport). OnOk c.show_vsync.result (Writes (g.K.Sink.taken c.args.sink.now) (g.K.Sink.taken c.show_vsync.new.sink) (vsync_shown (picture_at scene.pictures) c.args.shows.now.plan c.args.shows.now.timelines.items r c.handler.result.now.tree.layers) × AreShown (picture_at scene.pictures) c.show_vsync.new.screens))
     c.into_report.ensures
-    (c.show_vsync.ensures.ok (picture_at scene.pictures) (expected_told scene c.args.plan.now c.args.player.now c.handler.result.now tells c.handler.ensures.handler) shown) in
-    subst (λ (t : Action). OnOk c.show_vsync.result (Writes (g.K.Sink.taken c.args.sink.now) (g.K.Sink.taken c.show_vsync.new.sink) (action_written (picture_at scene.pictures) c.args.plan.now c.args.timelines.now c.args.player.now t)
+    (c.show_vsync.ensures.ok (picture_at scene.pictures) (expected_told scene c.args.shows.now.plan c.args.player.now c.handler.result.now tells c.handler.ensures.handler) shown) in
+    subst (λ (t : Action). OnOk c.show_vsync.result (Writes (g.K.Sink.taken c.args.sink.now) (g.K.Sink.taken c.show_vsync.new.sink) (action_written (picture_at scene.pictures) c.args.shows.now.plan c.args.shows.now.timelines.items c.args.player.now t)
     × AreShown (picture_at scene.pictures) c.show_vsync.new.screens)) (sym c.in-Vsync.is) (rw c.handler.ensures.handler at wrote)
 
 pub returns-in-Vsync-clause-err : goal.returns-in-Vsync-clause-err
 returns-in-Vsync-clause-err g c = λ scene may shown.
-    let tells = subst (λ (t : Action). MayWriteAction scene c.args.plan.now t c.args.player.now) c.in-Vsync.is may in
+    let tells = subst (λ (t : Action). MayWriteAction scene c.args.shows.now.plan t c.args.player.now) c.in-Vsync.is may in
     let cut =
-    subst (λ (r : VsyncReport). OnErr c.show_vsync.result (WritesPart (g.K.Sink.taken c.args.sink.now) (g.K.Sink.taken c.show_vsync.new.sink) (vsync_shown (picture_at scene.pictures) c.args.plan.now c.args.timelines.now r c.handler.result.now.tree.layers)))
+    subst (λ (r : VsyncReport). OnErr c.show_vsync.result (WritesPart (g.K.Sink.taken c.args.sink.now) (g.K.Sink.taken c.show_vsync.new.sink) (vsync_shown (picture_at scene.pictures) c.args.shows.now.plan c.args.shows.now.timelines.items r c.handler.result.now.tree.layers)))
     c.into_report.ensures
-    (c.show_vsync.ensures.err (picture_at scene.pictures) (expected_told scene c.args.plan.now c.args.player.now c.handler.result.now tells c.handler.ensures.handler) shown) in
-    subst (λ (t : Action). OnErr c.show_vsync.result (WritesPart (g.K.Sink.taken c.args.sink.now) (g.K.Sink.taken c.show_vsync.new.sink) (action_written (picture_at scene.pictures) c.args.plan.now c.args.timelines.now c.args.player.now t)))
+    (c.show_vsync.ensures.err (picture_at scene.pictures) (expected_told scene c.args.shows.now.plan c.args.player.now c.handler.result.now tells c.handler.ensures.handler) shown) in
+    subst (λ (t : Action). OnErr c.show_vsync.result (WritesPart (g.K.Sink.taken c.args.sink.now) (g.K.Sink.taken c.show_vsync.new.sink) (action_written (picture_at scene.pictures) c.args.shows.now.plan c.args.shows.now.timelines.items c.args.player.now t)))
     (sym c.in-Vsync.is) (rw c.handler.ensures.handler at cut)
 
 pub returns-in-Step-clause-ok : goal.returns-in-Step-clause-ok
 returns-in-Step-clause-ok g c = λ scene may shown. (
-  subst (Writes (g.K.Sink.taken c.args.sink.now) (g.K.Sink.taken c.args.sink.now)) (none_written (picture_at scene.pictures) c.args.plan.now c.args.timelines.now c.args.player.now c.args.action c.in-Step.is)
+  subst (Writes (g.K.Sink.taken c.args.sink.now) (g.K.Sink.taken c.args.sink.now)) (none_written (picture_at scene.pictures) c.args.shows.now.plan c.args.shows.now.timelines.items c.args.player.now c.args.action c.in-Step.is)
       (writes_none (g.K.Sink.taken c.args.sink.now)),
   shown,
 )

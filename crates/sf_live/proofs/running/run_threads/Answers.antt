@@ -60,7 +60,7 @@ returns-in-Err-settle-clause-cut g c =
     let all = of_ok _ c.run_actors-compositor.result.1 c.in-Ok.all_returned c.in-Ok.is c.run_actors-compositor.ensures.all in
     let returned = of_ok _ c.run_actors-compositor.result.1 c.in-Ok.all_returned c.in-Ok.is c.run_actors-compositor.ensures.returns in
     let was = kept g.K.Sink.taken g.K.Sink.faults _ g.B.TableName.table s.0 c.args.opened c.args.compositor s.1 s.2 c.requires.may.unused _ now c.in-Ok.all_returned first all c.as_slice.result.now c.as_slice.ensures returned in
-    cut_ended g.K.Sink.taken g.K.Sink.faults c.args.compositor c.settle.new.self c.fault_of-fault.result (λ is. (c.fault_of-fault.ensures is).1)
+    cut_ended g.K.Sink.taken g.K.Sink.faults _ g.B.TableName.table c.args.compositor c.settle.new.self c.fault_of-fault.result (λ is. (c.fault_of-fault.ensures is).1)
     (c.in-Err-settle.ensures.ended c.args.compositor c.args.opened.locks _ was)
 
 pub returns-clause-cut : goal.returns-clause-cut

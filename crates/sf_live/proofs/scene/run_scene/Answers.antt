@@ -17,20 +17,20 @@ pub run_opened-requires-clause-starts : goal.run_opened-requires-clause-starts
 run_opened-requires-clause-starts g c κs within = (
   c.args.scene,
   c.requires.begun.0,
-  may_run g.B.TableName.table c.args.scene _ _ _ _ _ _ _ _ c.scene.view_is
+  may_run g.B.TableName.table c.args.scene _ _ _ _ _ _ _ c.scene.view_is
       (c.in-Ok-open.ensures.opens (of_scene c.args.scene _ _ c.scene.view_is c.scene.invariant c.as_slice.ensures) c.requires.may.fresh
       (subst (λ (s : SceneValue). permits_of s.actors ≤ g.B.TableName.table.slots) (sym c.scene.view_is) c.requires.may.sized))
-      c.in-Ok-with_limit.ensures c.most_layers.ensures c.in-Ok.ensures.value c.requires.rising c.requires.begun.1,
+      c.in-Ok-with_limit.ensures c.most_layers.ensures c.in-Ok.ensures c.requires.begun.1,
 )
 
 pub returns : goal.returns
 returns g c = λ start begun.
     subst (λ (tells : Bool). LiveEnded tells c.args.scene c.run_opened.result start (g.K.Sink.taken c.run_opened.new.sink) (g.K.Sink.faults c.args.sink.now) (g.K.Sink.faults c.run_opened.new.sink)) c.in-Ok-open.ensures.told
     (c.run_opened.ensures c.args.scene start
-    (may_run g.B.TableName.table c.args.scene _ _ _ _ _ _ _ _ c.scene.view_is
+    (may_run g.B.TableName.table c.args.scene _ _ _ _ _ _ _ c.scene.view_is
     (c.in-Ok-open.ensures.opens (of_scene c.args.scene _ _ c.scene.view_is c.scene.invariant c.as_slice.ensures) c.requires.may.fresh
     (subst (λ (s : SceneValue). permits_of s.actors ≤ g.B.TableName.table.slots) (sym c.scene.view_is) c.requires.may.sized))
-    c.in-Ok-with_limit.ensures c.most_layers.ensures c.in-Ok.ensures.value c.requires.rising begun))
+    c.in-Ok-with_limit.ensures c.most_layers.ensures c.in-Ok.ensures begun))
 
 pub returns-in_default : goal.returns-in_default
 returns-in_default g c = λ start begun. ended_early c.args.tells c.args.scene start _ _ begun

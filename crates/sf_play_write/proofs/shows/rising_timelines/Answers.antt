@@ -1,7 +1,7 @@
 use Rattle.std.proofs.Common.{ℕ, List, ◌++◌, ap, ◌∙◌, subst}
 use Rattle.std.specs.List.Sorted.{IsPermutation}
 use Rattle.std.proofs.lemmas.List.Sorted.{IsNonDecreasingBy-from_sort}
-use Rattle.sf_play_write.proofs.play.rising_timelines.Goals as goal
+use Rattle.sf_play_write.proofs.shows.rising_timelines.Goals as goal
 
 pub returns : goal.returns
 returns c = record {

@@ -6,12 +6,15 @@ use Rattle.sf_play_write.specs.sf_play.Playing.{expected_by}
 use Rattle.sf_play_write.specs.Vsyncs.{AreImagesOf, AreReadableViews}
 use Rattle.sf_live_compositor.specs.Vsyncs.{Sitting}
 use Rattle.sf_live_compositor.proofs.GivenBack.{all_at_hand, all_given}
-use Rattle.sf_live_compositor.proofs.behind.make_behind.Goals as goal
+use Rattle.sf_live_compositor.proofs.behind.make_beside.Goals as goal
 
 pub compose_and_make-both-requires-clause-readable : goal.compose_and_make-both-requires-clause-readable
 compose_and_make-both-requires-clause-readable g c κs within =
     subst (λ (contents : List Picture). AreReadableViews contents c.args.views.items)
     (sym (map-id c.as_slice.result.now ∙ c.as_slice.ensures.value ∙ c.contents.view_is ∙ c.lend-contents.ensures.pictures)) c.requires.readable
+
+pub give_back-requires-clause-own : goal.give_back-requires-clause-own
+give_back-requires-clause-own g c = c.compose_and_make-both.ensures.table ∙ c.requires.next.own.own_turns
 
 pub returns-clause-images : goal.returns-clause-images
 returns-clause-images g c =
@@ -20,10 +23,12 @@ returns-clause-images g c =
 
 pub returns-clause-makes : goal.returns-clause-makes
 returns-clause-makes g c =
-    let old : Sitting g.row.B.Denot = record { handler = c.args.handler.now; seats = c.args.seats.now; number = c.args.before } in
-    let mid : Sitting g.row.B.Denot = record { handler = c.compose_and_make-both.new.handler; seats = c.compose_and_make-both.new.seats; number = c.args.before + 1 } in
-    all_given _ g.B.TableName.table c.args.locks.now c.args.period c.compose_and_make-both.result.1 old mid c.give_back.new.handler c.give_back.new.self
-    (c.compose_and_make-both.ensures.makes.makes c.args.handler.now (record { all = c.requires.all; pixels = map expected_by c.args.handler.now.on; lent = c.lend-contents.ensures.lent }))
+    let handler = c.args.handler.now in
+    let visit = c.args.visit.now in
+    let old : Sitting g.row.B.Denot = record { handler = handler; seats = c.args.seats.now; number = visit.before } in
+    let mid : Sitting g.row.B.Denot = record { handler = c.compose_and_make-both.new.handler; seats = c.compose_and_make-both.new.seats; number = visit.before + 1 } in
+    all_given _ g.B.TableName.table visit.locks.now visit.period c.compose_and_make-both.result.1 old mid c.give_back.new.handler c.give_back.new.self
+    (c.compose_and_make-both.ensures.makes.makes handler (record { all = c.requires.all; pixels = map expected_by handler.on; lent = c.lend-contents.ensures.lent }))
     c.give_back.ensures.goes c.give_back.ensures.reads c.give_back.ensures.back c.give_back.ensures.same
 
 pub returns-clause-all : goal.returns-clause-all
