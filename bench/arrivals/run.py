@@ -8,7 +8,6 @@ crates as they stand, compiled without any proof; it wants the kit's `rt`, and i
 Where valgrind is installed it counts the instructions of one thread that sends and takes, too.
 """
 import argparse
-import glob
 import os
 import re
 import resource
@@ -22,60 +21,14 @@ HERE = os.path.dirname(os.path.abspath(__file__))
 TOP = os.path.join(HERE, "..", "..")
 sys.path.insert(0, os.path.join(TOP, "tools"))
 
-from surbeldoi.build import compiling, small_program  # noqa: E402
+from surbeldoi.build import bench_program  # noqa: E402
 
 SENDERS = (1, 2, 4, 8, 16, 64)
 ALL = 64_000
 WAYS = ("lock", "queue")
 # How many transactions one thread sends while its instructions are counted: the difference of both runs counts.
 FEW, MANY = 1_000, 3_000
-# What the kit's compiler is asked for.
-OPTIONS = ("-O3", "-march=x86-64-v2", "-ffunction-sections", "-fdata-sections", "-fPIE", "--no-default-config")
-
-
-def make(folder, top):
-    """The crates of a checkout that the program uses, and its own, without their contracts; answers the folder of its own."""
-    source = small_program.contents(top, "bench", "arrivals", "arrivals.txt")
-    lines = small_program.listed_crates(small_program.contents(top, "crates.txt"))
-    uses = sorted(small_program.used_in([source]) & set(lines))
-    needed = small_program.below(uses, top, lines)
-    for crate in needed:
-        copied = shutil.copytree(os.path.join(top, "crates", crate, "src"), os.path.join(folder, "crates", crate, "src"))
-        for path in glob.glob(os.path.join(copied, "**", "*.rt"), recursive=True):
-            small_program.write(path, small_program.without_contracts(small_program.contents(path)))
-    own = os.path.join(folder, "crates", "arrivals")
-    os.makedirs(os.path.join(own, "src"))
-    small_program.write(os.path.join(own, "src", "main.rt"), source)
-    listed = [f"{lines[crate][0]}: {' '.join(name for name in lines[crate][1] if name in needed or name not in lines)}" for crate in sorted(needed)]
-    small_program.write(os.path.join(folder, "crates.txt"), "\n".join([*listed, "arrivals: " + " ".join(uses)]) + "\n")
-    shutil.copy(os.path.join(top, "HANDLES"), folder)
-    return own
-
-
-def module_of(crate, folder):
-    """The module that `rt try` compiles, copied once it has stopped to grow."""
-    pattern, kept, before = os.path.join(glob.escape(folder), compiling.MADE, compiling.MODULE), os.path.join(folder, "module.bc"), {}
-    with subprocess.Popen(["rt", "try"], cwd=crate, env={**os.environ, "TMPDIR": folder}, stdin=subprocess.DEVNULL, stdout=subprocess.DEVNULL,
-                          stderr=subprocess.DEVNULL) as trying:
-        while trying.poll() is None:
-            sizes = {path: compiling.size_of(path) for path in glob.glob(pattern)}
-            for path, size in sizes.items():
-                if 0 < size == before.get(path):
-                    shutil.copy(path, kept)
-            before = sizes
-            time.sleep(0.5)
-    return kept
-
-
-def build(folder, top):
-    """The program over the crates of a checkout, compiled by the kit."""
-    module, program, kit = module_of(make(folder, top), folder), os.path.join(folder, "arrivals"), compiling.kit()
-    tools, library = os.path.join(kit, "toolchain"), os.path.join(kit, "toolchain", "lib")
-    begins, needed, ends = ([os.path.join(library, name) for name in names] for names in (compiling.BEGINS, compiling.LIBRARIES, compiling.ENDS))
-    subprocess.run([os.path.join(tools, "bin", "clang"), "--target=x86_64-unknown-linux-gnu", *OPTIONS, "-c", "-x", "ir", module, "-o", module + ".o"], check=True)
-    subprocess.run([os.path.join(tools, "bin", "ld.lld"), "-pie", "--gc-sections", "--dynamic-linker", compiling.LOADER, "-o", program, *begins, module + ".o",
-                    *(os.path.join(kit, name) for name in compiling.RUNTIME), *needed, *ends], check=True)
-    return program
+MAIN = os.path.join("bench", "arrivals", "arrivals.txt")
 
 
 def seconds(program, way, senders, count):
@@ -129,7 +82,7 @@ def main(words):
         for name, top in checkouts.items():
             own = os.path.join(folder, name.strip() or "now")
             os.makedirs(own)
-            built[name] = build(own, top)
+            built[name] = bench_program.build(own, top, MAIN)
         programs = {**{way: (built[""], way) for way in WAYS}, **{f"lock{name}": (program, "lock") for name, program in built.items()}}
         if shutil.which("valgrind"):
             print("instructions a transaction, one thread: " + ", ".join(f"lock{name} {instructions(program, folder):,.0f}" for name, program in built.items()))
