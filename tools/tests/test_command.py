@@ -7,8 +7,10 @@ import subprocess
 import sys
 import unittest
 
+from surbeldoi.check.ordering import Ordered, check_opening
 from surbeldoi.commands import run
 from surbeldoi.records import stream
+from surbeldoi.script.scenes import read_scene
 
 PROGRAM = run.built(run.TOP)
 NO_RECORDS = (b"sf_main: records are binary and are not written to a terminal; "
@@ -51,10 +53,36 @@ def with_memory(size, *words, script=b""):
     return (ended.returncode, ended.stdout, ended.stderr) if began else None
 
 
+def left_after(size, *words, script):
+    """The status of a call whose output is closed after so many bytes were read, and these bytes."""
+    with subprocess.Popen([PROGRAM, *words], stdin=subprocess.PIPE, stdout=subprocess.PIPE, stderr=subprocess.DEVNULL) as called:
+        called.stdin.write(script)
+        called.stdin.close()
+        records = called.stdout.read(size)
+        called.stdout.close()
+        return called.wait(timeout=60), records
+
+
 def is_cut_once(data):
     """Whether these are whole records, and behind them at most one that is cut."""
     records, _ = stream.read(data)
     return all(not record.faults for record in records[:-1]) and all(record.is_cut or not record.faults for record in records[-1:])
+
+
+def vsyncs_begun(script, data):
+    """The vsyncs with which a live run begins that wrote this: SCEN, whole vsyncs, and only then the replies and the closing records. What is
+    cut is left out. Raises Refused where the records have another order."""
+    records, _ = stream.read(data)
+    ordered, vsyncs = Ordered([record for record in records if not record.is_cut]), []
+    if ordered.records:
+        check_opening(ordered.take("SCEN"), read_scene(script))
+    while ordered.tag() == "VSYN":
+        vsyncs.append(ordered.vsync())
+    for tag in ("REPL", "ARRV", "HIST", "HOLD", "STUK", "DONE"):
+        ordered.take_all(tag)
+    if ordered.at < len(ordered.records):
+        raise ordered.wrong("the next record of a run")
+    return vsyncs
 
 
 class Terminal:
@@ -122,6 +150,28 @@ class Command(unittest.TestCase):
         self.assertEqual(began[-1], (1, b"", USAGE))
         self.assertEqual(began, sorted(began, key=lambda ended: -ended[0]), "with more memory")
 
+    def begins(self, script, records):
+        """What a live run wrote is a beginning: its vsyncs have rising numbers and their times, and all but the last one have a commit."""
+        self.assertTrue(is_cut_once(records))
+        vsyncs = vsyncs_begun(script, records)
+        numbers = [vsync.record.fields["number"] for vsync in vsyncs]
+        self.assertEqual(numbers, sorted(set(numbers)), "numbers rise")
+        self.assertEqual([vsync.record.fields["expected"] for vsync in vsyncs], [number * read_scene(script).period for number in numbers], "times")
+        self.assertTrue(all(vsync.commits for vsync in vsyncs[:-1]), "each vsync commits something")
+        return len(vsyncs)
+
+    def test_a_live_run_whose_reader_goes(self):
+        with open(os.path.join(run.TOP, "crates", "test_program", "data", "phone.sf"), "rb") as file:
+            script = file.read()
+        for words in (), ("--intake", "queue"):
+            whole = called("--run", "live", *words, script=script)[1]
+            for read in (0, 1, 30, len(whole) // 3, len(whole) * 2 // 3, len(whole) - 1):
+                with self.subTest(words=words, read=read):
+                    status, records = left_after(read, "--run", "live", *words, script=script)
+                    self.assertIn(status, (0, 4), "a pipe holds some bytes that nobody reads")
+                    self.assertLessEqual(len(records), read)
+                    self.begins(script, records)
+
     def test_a_live_run_with_little_memory(self):
         with open(os.path.join(run.TOP, "crates", "test_program", "data", "phone.sf"), "rb") as file:
             script = file.read()
@@ -130,7 +180,7 @@ class Command(unittest.TestCase):
             began = [one for one in ended if one]
             for status, records, err in began:
                 self.assertIn((status, err), [(0, b""), (5, b"out of memory\n")])
-                self.assertTrue(is_cut_once(records))
+                self.begins(script, records)
                 self.assertEqual(records.endswith(b"DONE" + bytes(4)), status == 0)
             self.assertEqual((began[0][0], began[-1][0]), (5, 0), "with the least and the most memory")
 

@@ -30,9 +30,9 @@ FRAMES = """
 sf_main: main answer run_over_streams
 sf_app: run follow play_asked play_script play_scene show_run show play play_with
 sf_play_write: show_play write_play show_actions show_action write_action show_vsync compose_views compose_output compose_on
-sf_output_screen: show compose_behind compose_again
-sf_compose: compose_seen_by compose_bands compose_here compose_seen_by|f compose_band_seen compose_rect_seen compose_area_seen
-sf_compose: compose_slice_seen paint_shown paint_parts paint_layer paint_buffer paint_crop paint_crop_row paint_pixels paint_row
+sf_output_screen: show compose_over
+sf_compose: compose_by compose_bands compose_by|f compose_band compose_rect compose_area compose_slice compose_shown
+sf_compose: paint_shown paint_parts paint_layer paint_buffer paint_crop paint_crop_row paint_pixels paint_row
 sf_rows: blend_row blend_row_blocks row_blocks four_pixels
 """
 
