@@ -15,4 +15,5 @@ Moves pixel band area old new = (opaque : Bool) (below : ℕ → ℕ → Rgba �
 
 -- the same of pixels from a number on and below another
 abbrev pub MovesSpan : List ℕ → List ℕ → ℕ → ℕ → (ℕ → Rgba) → Type 0
-MovesSpan old new start end pixel = (opaque : Bool) (below : ℕ → Rgba → Rgba) → PaintsSpan old new start end (λ i under. painted (below i under) (source_of opaque (pixel i)) 255)
+MovesSpan old new start end pixel = (opaque : Bool) (below : ℕ → Rgba → Rgba) → PaintsSpan old new start end (λ i under.
+    painted (below i under) (source_of opaque (pixel i)) 255)

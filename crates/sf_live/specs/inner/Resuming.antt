@@ -39,8 +39,8 @@ abbrev pub HasShownRun : {B : Type 0} → TableId → RunOf B → Option (List �
 HasShownRun table run start player = HasShown table run.scene (plan_of run.scene) run.timelines start run.now run.screens player
 
 -- so it has of whichever run it goes on with
-abbrev pub ShowsJoined : {B : Type 0} → Ghosts ReadLeaseOf SeatView ReadLeaseOf Issued → TableId → Joined B → ℕ → List Pick → HandlerOf ReadLeaseOf → ℕ → PlayerOf B
-    → Type 0
+abbrev pub ShowsJoined : {B : Type 0} → Ghosts ReadLeaseOf SeatView ReadLeaseOf Issued → TableId → Joined B → ℕ → List Pick
+    → HandlerOf ReadLeaseOf → ℕ → PlayerOf B → Type 0
 ShowsJoined {B} lease table joined period order handler vsyncs player =
     (run : RunOf B) (locks : Locks B) (start : Option (List ℕ)) → GoesOnFrom lease table run locks start joined period order handler vsyncs
     → HasShownRun table run start player
