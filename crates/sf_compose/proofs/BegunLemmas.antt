@@ -18,16 +18,13 @@ use Rattle.sf_compose.specs.inner.Begun.{IsBegun, Spares}
 use Rattle.sf_compose.specs.Frames.{is_in_box, Repaints}
 use Rattle.sf_compose.specs.inner.Ground.{hides}
 use Rattle.sf_compose.specs.inner.Painting.{is_in_area, Paints}
-use Rattle.sf_compose.specs.Readings.{AreReadable, IsReadable, under_drawn, under_one}
+use Rattle.sf_compose.specs.Readings.{under_drawn, under_one}
 use Rattle.sf_compose.specs.inner.Seen.{AreGivenAt, AreSeenAt}
 use Rattle.sf_compose.proofs.GroundLemmas.{hidden}
 use Rattle.sf_compose.proofs.LayerLemmas.{under_drawn-more}
 use Rattle.sf_compose.proofs.PaintLemmas.{painted-black, Paints-then}
 
 -- what stays as it is
-
-pub Spares-none : (w base : ℕ) (p : ℕ → ℕ → Bool) (old : List ℕ) → Spares w base p old old
-Spares-none w base p old = record { size = refl; rest = λ x y wide low t. refl }
 
 pub Spares-then : (w base : ℕ) (p : ℕ → ℕ → Bool) (old mid new : List ℕ) → Spares w base p old mid → Spares w base p mid new → Spares w base p old new
 Spares-then w base p old mid new a b = record { size = b.size ∙ a.size; rest = λ x y wide low t. b.rest x y wide low t ∙ a.rest x y wide low t }
@@ -81,33 +78,7 @@ IsBegun-black w base p contents layers sources old new a = record {
   image = λ x y wide low t. ap (λ (z : Rgba). under_drawn contents (pos x) (pos y) z layers sources) ((rw t at (a.pixels x y wide low)) ∙ painted-black _);
 }
 
--- and how it ends
-pub Paints-begun : (w base : ℕ) (p : ℕ → ℕ → Bool) (contents : List Picture) (layers : List Drawn) (sources : List ℕ) (first : ℕ) (old mid new : List ℕ) → Spares w base p old mid → IsBegun w base p contents layers sources first mid → Paints w base p (λ x y under. under_drawn contents (pos x) (pos y) under (drop first layers) (drop first sources)) mid new → Paints w base p (λ x y under. under_drawn contents (pos x) (pos y) opaque_black layers sources) old new
-Paints-begun w base p contents layers sources first old mid new a begun b = record {
-  size = b.size ∙ a.size;
-  pixels = λ x y wide low. by_test x y wide low (p x y) refl;
-}
-  where
-    by_test : (x y : ℕ) → x < w → base ≤ y → (t : Bool) → p x y ≡ t → pixel_in new ((y - base) * w + x) ≡ (if p x y then under_drawn contents (pos x) (pos y) opaque_black layers sources else pixel_in old ((y - base) * w + x))
-    by_test x y wide low true t = rw t ((rw t at (b.pixels x y wide low)) ∙ begun.image x y wide low t)
-    by_test x y wide low false t = rw t ((rw t at (b.pixels x y wide low)) ∙ a.rest x y wide low t)
-
 -- lists from a place on
-
-take_nil : {A : Type 0} (k : ℕ) (xs : List A) → length xs ≡ 0 → take k xs ≡ xs
-take_nil zero [] h = refl
-take_nil (suc k) [] h = refl
-take_nil zero (x ∷ xs) h = absurd (omega arith)
-take_nil (suc k) (x ∷ xs) h = absurd (omega arith)
-
-pub rest_of : {A : Type 0} (xs : List A) (n : ℕ) → take (length xs - n) (drop n xs) ≡ drop n xs
-rest_of xs zero = let all : length xs - 0 ≡ length xs = omega arith in rw all (take_all_of xs)
-  where
-    take_all_of : {A : Type 0} (ys : List A) → take (length ys) ys ≡ ys
-    take_all_of [] = refl
-    take_all_of (y ∷ ys) = ap (λ zs. y ∷ zs) (take_all_of ys)
-rest_of [] (suc n) = take_nil (0 - suc n) [] refl
-rest_of (x ∷ xs) (suc n) = let less : suc (length xs) - suc n ≡ length xs - n = omega arith in rw less (rest_of xs n)
 
 pub AllZip-drop : {A B : Type 0} (R : A → B → Type 0) (n : ℕ) (xs : List A) (ys : List B) → AllZip R xs ys → AllZip R (drop n xs) (drop n ys)
 AllZip-drop R zero xs ys all = all
@@ -116,30 +87,18 @@ AllZip-drop R (suc n) [] (y ∷ ys) all = absurd all
 AllZip-drop R (suc n) (x ∷ xs) [] all = absurd all
 AllZip-drop R (suc n) (x ∷ xs) (y ∷ ys) all = AllZip-drop R n xs ys all.1
 
-pub AreReadable-drop : (contents : List Picture) (layers : List Drawn) (sources : List ℕ) (n : ℕ) → AreReadable contents layers sources → AreReadable contents (drop n layers) (drop n sources)
-AreReadable-drop contents layers sources n a = record { all = AllZip-drop (λ drawn source. IsReadable contents drawn.content source) n layers sources a.all }
-
 pub AreSeenAt-long : (test : ℕ → ℕ → Bool) (layers : List Drawn) (shows : List (List Rect)) → AreSeenAt test layers shows → length shows ≡ length layers
 AreSeenAt-long test [] shows a = ap length a
 AreSeenAt-long test (d ∷ ds) [] a = absurd a
 AreSeenAt-long test (d ∷ ds) (r ∷ rs) a = ap suc (AreSeenAt-long test ds rs a.1)
 
 -- regions that have what shows at some points have it at fewer
-pub AreSeenAt-within : (some fewer : ℕ → ℕ → Bool) (layers : List Drawn) (shows : List (List Rect)) → ((x y : ℕ) → fewer x y ≡ true → some x y ≡ true) → AreSeenAt some layers shows → AreSeenAt fewer layers shows
-AreSeenAt-within some fewer [] shows within a = a
-AreSeenAt-within some fewer (d ∷ ds) [] within a = a
-AreSeenAt-within some fewer (d ∷ ds) (r ∷ rs) within a = (λ x y t. a.0 x y (within x y t), AreSeenAt-within some fewer ds rs within a.1)
-
 pub AreSeenAt-visible : (some : ℤ → ℤ → Bool) (fewer : ℕ → ℕ → Bool) (layers : List Drawn) (shows : List (List Rect)) → ((x y : ℕ) → fewer x y ≡ true → some (pos x) (pos y) ≡ true) → AreVisibleAt some layers shows → AreSeenAt fewer layers shows
 AreSeenAt-visible some fewer [] shows within a = a
 AreSeenAt-visible some fewer (d ∷ ds) [] within a = a
 AreSeenAt-visible some fewer (d ∷ ds) (r ∷ rs) within a = (λ x y t. a.0 (pos x) (pos y) (within x y t), AreSeenAt-visible some fewer ds rs within a.1)
 
 -- the same where such regions are given
-pub AreGivenAt-within : (some fewer : ℕ → ℕ → Bool) (layers : List Drawn) (shows : Option (Bor (List (List Rect)))) → ((x y : ℕ) → fewer x y ≡ true → some x y ≡ true) → AreGivenAt some layers shows → AreGivenAt fewer layers shows
-AreGivenAt-within some fewer layers None within a = tt
-AreGivenAt-within some fewer layers (Some shows) within a = AreSeenAt-within some fewer layers shows.now within a
-
 pub AreGivenAt-shown : (some : ℤ → ℤ → Bool) (fewer : ℕ → ℕ → Bool) (layers : List Drawn) (shows : Option (Bor (List (List Rect)))) → ((x y : ℕ) → fewer x y ≡ true → some (pos x) (pos y) ≡ true) → AreShownAt some layers shows → AreGivenAt fewer layers shows
 AreGivenAt-shown some fewer layers None within a = tt
 AreGivenAt-shown some fewer layers (Some shows) within a = AreSeenAt-visible some fewer layers shows.now within a

@@ -10,6 +10,8 @@ use Rattle.sf_damage.specs.sf_picture.Pixels.{pixel_at, ShowsPicture}
 use Rattle.sf_damage.specs.sf_picture.Solid.{IsSolid}
 use Rattle.sf_base.specs.Geometry.{is_within, LiesWithin}
 use Rattle.sf_damage.specs.sf_view.Contents.{unsigned}
+use Rattle.sf_compose.specs.declared.crop.Crop.{Crop}
+use Rattle.sf_compose.specs.inner.Crops.{crop_pixel}
 
 pub both_left : (a b : Bool) → (a && b) ≡ true → a ≡ true
 both_left true b h = refl
@@ -151,3 +153,11 @@ within_between place extent first last at f l after before =
     let p : int_le place (pos first) ≡ true = both_left _ _ f in
     let q : int_lt (pos last) (place +ℤ pos extent) ≡ true = both_right (int_le place (pos last)) _ l in
     both_true _ _ (true_from_ne_false (int_le place (pos at)) (λ no. omega (arith, ints, p, after, no))) (true_from_ne_false (int_lt (pos at) (place +ℤ pos extent)) (λ no. omega (arith, ints, q, before, no)))
+
+-- the pixel of a crop's row that is painted at a number of a frame, where the row starts at a pixel
+pub shown_in_row : (picture : Picture) (crop : Crop) (left right y start x : ℕ) (pixels : List ℕ) → left ≤ x → x < right → ((k : ℕ) → k < right - left → pixel_in pixels k ≡ crop_pixel picture crop (left + k) y)
+    → pixel_in pixels ((start + x) - (start + left)) ≡ crop_pixel picture crop x y
+shown_in_row picture crop left right y start x pixels from to each =
+    let place : (start + x) - (start + left) ≡ x - left = omega (arith, from) in
+    let column : left + (x - left) ≡ x = omega (arith, from) in
+    rw place (rw column at (each (x - left) (omega (arith, from, to))))

@@ -127,6 +127,9 @@ rows_apart left right top y a b t = grind (arith, nat_tests)
 pub box_without_sides : (left right top bottom a b : ℕ) → right ≤ left → is_in_box left right top bottom a b ≡ false
 box_without_sides left right top bottom a b none = grind (arith, nat_tests)
 
+pub box_without_edges : (left right top bottom a b : ℕ) → bottom ≤ top → is_in_box left right top bottom a b ≡ false
+box_without_edges left right top bottom a b none = grind (arith, nat_tests)
+
 swapped : (a b c d : Bool) → ((a && b) && (c && d)) ≡ ((a && c) && (b && d))
 swapped true true true d = refl
 swapped true true false d = refl

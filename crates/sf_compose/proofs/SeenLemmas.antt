@@ -1,5 +1,5 @@
 -- Layers that are painted only where they show.
-use Rattle.std.proofs.Common.{◌≡◌, ℕ, zero, suc, ◌+◌, ◌-◌, ◌*◌, ◌<◌, ◌≤◌, ◌&&◌, ◌||◌, ◌⊎◌, Bool, true, false, if◌then◌else◌, List, [], ◌∷◌, length, get_or, take, drop, refl, ap, ◌∙◌, sym, arith, add-one, ℤ, pos, inl, inr}
+use Rattle.std.proofs.Common.{◌≡◌, ℕ, zero, suc, ◌+◌, ◌-◌, ◌*◌, ◌<◌, ◌≤◌, ◌&&◌, ◌||◌, Bool, true, false, if◌then◌else◌, List, [], ◌∷◌, length, get_or, take, drop, refl, ap, ◌∙◌, sym, arith, add-one, ℤ, pos, inl, inr}
 use Rattle.std.specs.List.{AllZip, list_any}
 use Rattle.std.proofs.Math.Seq.{drop-cons, drop-length}
 use Rattle.std.proofs.lemmas.Bool.{and_parts, both_ways, eqb-true, false_from_ne_true, false≢true, or_cases, or_left, or_right}
@@ -22,8 +22,8 @@ use Rattle.sf_compose.specs.inner.Painting.{is_in_area, Paints}
 use Rattle.sf_compose.specs.inner.Begun.{IsBegun, Spares}
 use Rattle.sf_compose.specs.Readings.{AreReadable, IsReadable, pixel_from, under_drawn, under_one}
 use Rattle.sf_compose.specs.inner.Seen.{AreSeenAt}
-use Rattle.sf_compose.proofs.BegunLemmas.{AllZip-drop, Spares-painted, Spares-then}
-use Rattle.sf_compose.proofs.PaintLemmas.{Paints-none, Paints-then}
+use Rattle.sf_compose.proofs.BegunLemmas.{AllZip-drop}
+use Rattle.sf_compose.proofs.PaintLemmas.{Paints-then}
 
 -- rectangles that share no point
 
@@ -61,10 +61,6 @@ Paints-part w base area part parts i d f old mid new apart h a b points = Paints
 pub right_false : (a : Bool) → (a && false) ≡ false
 right_false true = refl
 right_false false = refl
-
--- no rectangle yet
-pub Paints-no_part : (w base : ℕ) (area : Area) (f : ℕ → ℕ → Rgba → Rgba) (old : List ℕ) → Paints w base (λ x y. is_in_area area x y && has [] (pos x) (pos y)) f old old
-Paints-no_part w base area f old = Paints-none w base (λ x y. is_in_area area x y && has [] (pos x) (pos y)) f old (λ x y. right_false (is_in_area area x y))
 
 -- what is hidden
 
@@ -120,11 +116,11 @@ IsBegun-seen w base test contents layers sources shows n d s r old new h k reada
 })
 
 -- beside an area is none of its part
-part_beside : (area : Area) (region : List Rect) (x y : ℕ) → is_in_area area x y ≡ false → (is_in_area area x y && has region (pos x) (pos y)) ≡ false
+pub part_beside : (area : Area) (region : List Rect) (x y : ℕ) → is_in_area area x y ≡ false → (is_in_area area x y && has region (pos x) (pos y)) ≡ false
 part_beside area region x y t = rw t refl
 
 -- one layer more, painted over the whole area
-IsBegun-whole : (w base : ℕ) (area : Area) (contents : List Picture) (layers : List Drawn) (sources : List ℕ) (n : ℕ) (d : Drawn) (s : ℕ) (old new : List ℕ) → n < length layers → n < length sources
+pub IsBegun-whole : (w base : ℕ) (area : Area) (contents : List Picture) (layers : List Drawn) (sources : List ℕ) (n : ℕ) (d : Drawn) (s : ℕ) (old new : List ℕ) → n < length layers → n < length sources
     → Paints w base (is_in_area area) (λ x y under. under_one contents (pos x) (pos y) under (get_or layers n d) (get_or sources n s)) old new
     → IsBegun w base (is_in_area area) contents layers sources n old → IsBegun w base (is_in_area area) contents layers sources (n + 1) new
 IsBegun-whole w base area contents layers sources n d s old new h k painted begun = rw (add-one n) (record {
@@ -138,22 +134,6 @@ IsBegun-whole w base area contents layers sources n d s old new h k painted begu
       ap (λ (p : Rgba). under_drawn contents (pos x) (pos y) p above later) here
       ∙ (ap (λ (ls : List Drawn). under_drawn contents (pos x) (pos y) under ls (source ∷ later)) (sym (drop-cons layers n d h)) ∙ (ap (λ (ss : List ℕ). under_drawn contents (pos x) (pos y) under (drop n layers) ss) (sym (drop-cons sources n s k)) ∙ begun.image x y wide low t)));
 })
-
--- one layer more, painted over the whole area or where it shows
-pub IsBegun-shown : (w base : ℕ) (area : Area) (contents : List Picture) (layers : List Drawn) (sources : List ℕ) (shows : List (List Rect)) (n : ℕ) (d : Drawn) (s : ℕ) (r : List Rect) (first old new : List ℕ) → n < length layers → n < length sources → AreReadable contents layers sources → AreSeenAt (is_in_area area) layers shows
-    → Paints w base (is_in_area area) (λ x y under. under_one contents (pos x) (pos y) under (get_or layers n d) (get_or sources n s)) old new
-    ⊎ Paints w base (λ x y. is_in_area area x y && has (get_or shows n r) (pos x) (pos y)) (λ x y under. under_one contents (pos x) (pos y) under (get_or layers n d) (get_or sources n s)) old new
-    → Spares w base (is_in_area area) first old → IsBegun w base (is_in_area area) contents layers sources n old
-    → Spares w base (is_in_area area) first new × IsBegun w base (is_in_area area) contents layers sources (n + 1) new
-IsBegun-shown w base area contents layers sources shows n d s r first old new h k readable visible (inl whole) spared begun = (
-  Spares-then w base (is_in_area area) first old new spared (Spares-painted w base (is_in_area area) (is_in_area area) _ old new whole (λ x y t. t)),
-  IsBegun-whole w base area contents layers sources n d s old new h k whole begun,
-)
-IsBegun-shown w base area contents layers sources shows n d s r first old new h k readable visible (inr parts) spared begun = (
-  Spares-then w base (is_in_area area) first old new spared
-      (Spares-painted w base (λ x y. is_in_area area x y && has (get_or shows n r) (pos x) (pos y)) (is_in_area area) _ old new parts (λ x y t. part_beside area (get_or shows n r) x y t)),
-  IsBegun-seen w base (is_in_area area) contents layers sources shows n d s r old new h k readable visible parts begun,
-)
 
 -- and none
 pub IsBegun-ended : (w base : ℕ) (p : ℕ → ℕ → Bool) (contents : List Picture) (layers : List Drawn) (sources : List ℕ) (n : ℕ) (old new : List ℕ) → n ≡ length layers → Spares w base p old new → IsBegun w base p contents layers sources n new

@@ -56,11 +56,7 @@ under_drawn contents x y under (drawn ∷ layers) (source ∷ sources) =
 abbrev pub over_layer : List Picture → Drawn → ℕ → ℕ → ℕ → Rgba → Rgba
 over_layer contents drawn source = λ x y under. under_one contents (pos x) (pos y) under drawn source
 
--- and of the drawn layers of a list
-abbrev pub over_layers : List Picture → List Drawn → List ℕ → ℕ → ℕ → Rgba → Rgba
-over_layers contents layers sources = λ x y under. under_drawn contents (pos x) (pos y) under layers sources
-
--- the same over black, whatever was there
+-- of all drawn layers over black, whatever was there
 abbrev pub over_black : List Picture → List Drawn → List ℕ → ℕ → ℕ → Rgba → Rgba
 over_black contents layers sources = λ x y under. under_drawn contents (pos x) (pos y) opaque_black layers sources
 

@@ -1,5 +1,6 @@
 pub mod Bands
 pub mod Begun
+pub mod Cover
 pub mod Crops
 pub mod Ground
 pub mod Moving

@@ -15,6 +15,15 @@ pub struct Area {
     pub bottom: u32,
 }
 
+impl Area {
+    /// Whether the area has a point.
+    pub fn has(self, x: u32, y: u32) -> bool
+        ensures { result ≡ is_in_area self x y }
+    {
+        (self.left <= x && x < self.right) && (self.top <= y && y < self.bottom)
+    }
+}
+
 /// The points of an area that a rectangle has.
 pub fn cut(area: Area, rect: &Rect) -> Area
     ensures top { area.top ≤ result.top }

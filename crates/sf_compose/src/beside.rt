@@ -46,31 +46,10 @@ fn size_of(band: Band) -> usize
     4 * ((band.bottom - band.top) as usize * band.width as usize)
 }
 
-/// Has the rows of a band composed, in as many threads as share them, and by the caller's where that is one.
-pub fn compose_bands<R: Threads + Sync, F: Fn(Band, &mut [u8]) + Sync>(
-    rt: &R,
-    f: &F,
-    share: Share,
-    band: Band,
-    bytes: &mut [u8],
-)
-    requires ordered { band.top ≤ band.bottom }
-    requires room { HasRows band bytes.old }
-    requires accepts { AcceptsBands F.Fn f.now }
-    ensures { (test : ℕ → ℕ → Bool) (image : ℕ → ℕ → RgbaIn) → RepaintsBands F.Fn f.now test image
-        → RepaintsBand band test image bytes.old bytes.new }
-{
-    if share.is_last() {
-        f(band, bytes);
-    } else {
-        start_each(rt, f, share, band, bytes);
-    }
-}
-
 /// Has the rows of a band composed, each share in a thread. All threads begin one right after another,
 /// since the one that starts them composes nothing itself but where no thread can be made.
 #[cycle(bands)]
-fn start_each<R: Threads + Sync, F: Fn(Band, &mut [u8]) + Sync>(
+pub fn start_each<R: Threads + Sync, F: Fn(Band, &mut [u8]) + Sync>(
     rt: &R,
     f: &F,
     share: Share,

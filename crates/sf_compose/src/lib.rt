@@ -1,8 +1,8 @@
 //! The image of a view: the drawn layers painted over one another, from the back, into the bytes
 //! of a frame. It is the last step of a frame's way: what a vsync latched is composed here, and
 //! only in the part that is asked for. It is composed in slices of rows, all layers one after another
-//! in each. Each layer goes row by row, one call of a row kernel for each, and a slice begins with the
-//! topmost layer that hides all of it.
+//! in each. Each layer goes row by row, one call of a row kernel for each. A slice begins with the
+//! topmost layer that hides all of it, and with black where layers do not hide it together either.
 //! Of a buffer that is oriented or mirrored, each row is first picked into a row of its own, or, where
 //! its pixels are only moved, straight into the frame.
 #![tactic(auto)]
@@ -13,6 +13,7 @@ mod begin;
 mod beside;
 mod composition;
 mod contents;
+mod cover;
 mod crop;
 mod ground;
 mod laws;

@@ -24,7 +24,8 @@ use sf_damage::sf_view::View;
 ///
 /// Each rectangle of the part is composed in slices of rows, which stay in a processor's cache until
 /// the last layer is painted. In each slice the layers are painted from the topmost one that hides
-/// all of it, or over black where none does. It needs no memory.
+/// all of it. Where none does, all are painted, over black if they do not hide it together. It needs
+/// no memory.
 pub fn compose_one<'a, C: Pixels>(
     view: &'a View,
     contents: &'a [C],

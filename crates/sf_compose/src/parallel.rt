@@ -7,7 +7,7 @@ ghost use Rattle.sf_compose.specs.Readings.{AreReadable, read_image};
 ghost use Rattle.sf_compose.specs.inner.Bands.{HasRows, is_in, RepaintsBand};
 
 use crate::band::{Band, all_rows};
-use crate::beside::compose_bands;
+use crate::beside::start_each;
 use crate::composition::Composition;
 use crate::pixels::Pixels;
 use crate::seen::compose_band;
@@ -91,7 +91,12 @@ pub fn compose_by<R: Threads + Sync, C: Pixels + Sync>(
     ensures rest { KeepsRest composition.now.view.now part.now frame.old frame.new }
 {
     let share = Share::among(workers, part, work_of(workers, composition, part));
-    compose_bands(
+    let rows = all_rows(composition.view);
+    if share.is_last() {
+        compose_band(composition, part, rows, frame);
+        return Ok(());
+    }
+    start_each(
         rt,
         &|band: Band, bytes: &mut [u8]|
             requires { AreComposable (map C.picture composition.now.contents.now) composition.now.view.now.drawn composition.now.sources.now composition.now.shows part.now
@@ -102,7 +107,7 @@ pub fn compose_by<R: Threads + Sync, C: Pixels + Sync>(
             compose_band(composition, part, band, bytes);
         },
         share,
-        all_rows(composition.view),
+        rows,
         frame,
     );
     Ok(())

@@ -1,5 +1,5 @@
 //! The pixels of one row of a frame, painted by the kernels of `sf_rows`.
-ghost use Rattle.std.specs.Prelude.{◌≡◌, ℕ, ◌+◌, ◌-◌, ◌*◌, ◌≤◌, length, true, IsTrue};
+ghost use Rattle.std.specs.Prelude.{◌≡◌, ℕ, ◌+◌, ◌-◌, ◌*◌, ◌≤◌, length, IsTrue};
 ghost use Rattle.sf_base.specs.Paint.{painted};
 ghost use Rattle.sf_compose.specs.inner.Painting.{PaintsSpan, PaintsSpanAnew};
 ghost use Rattle.sf_base.specs.Bytes.{pixel_in};
@@ -28,26 +28,6 @@ pub fn paint_colour(frame: &mut [u8], start: usize, end: usize, colour: Rgba, al
     blend_colour(&mut frame[4 * start..4 * end], colour, alpha);
 }
 
-/// Paints pixels over those from one number on and before another.
-fn paint_row(frame: &mut [u8], start: usize, end: usize, row: &[u8], alpha: u8)
-    requires ordered { start ≤ end }
-    requires within { 4 * end ≤ length frame.old }
-    requires same { length row.now ≡ 4 * end - 4 * start }
-    ensures { PaintsSpan frame.old frame.new start end (λ i under. painted under (pixel_in row.now (i - start)) alpha) }
-{
-    blend_row(&mut frame[4 * start..4 * end], row, alpha);
-}
-
-/// The same of pixels that count as opaque.
-fn paint_row_opaque(frame: &mut [u8], start: usize, end: usize, row: &[u8], alpha: u8)
-    requires ordered { start ≤ end }
-    requires within { 4 * end ≤ length frame.old }
-    requires same { length row.now ≡ 4 * end - 4 * start }
-    ensures { PaintsSpan frame.old frame.new start end (λ i under. painted under (source_of true (pixel_in row.now (i - start))) alpha) }
-{
-    blend_row_opaque(&mut frame[4 * start..4 * end], row, alpha);
-}
-
 /// Paints pixels, which may count as opaque, over those from one number on and before another.
 pub fn paint_pixels(frame: &mut [u8], start: usize, end: usize, row: &[u8], opaque: bool, alpha: u8)
     requires ordered { start ≤ end }
@@ -56,10 +36,11 @@ pub fn paint_pixels(frame: &mut [u8], start: usize, end: usize, row: &[u8], opaq
     ensures { PaintsSpan frame.old frame.new start end
         (λ i under. painted under (source_of opaque (pixel_in row.now (i - start))) alpha) }
 {
+    let target = &mut frame[4 * start..4 * end];
     if opaque {
-        paint_row_opaque(frame, start, end, row, alpha);
+        blend_row_opaque(target, row, alpha);
     } else {
-        paint_row(frame, start, end, row, alpha);
+        blend_row(target, row, alpha);
     }
 }
 

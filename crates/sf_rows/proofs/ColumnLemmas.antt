@@ -1,5 +1,5 @@
 -- Pairs of pixels of two vectors, and four rows of picked pixels.
-use Rattle.std.proofs.Common.{◌≡◌, ℕ, zero, suc, ◌+◌, ◌-◌, ◌*◌, ◌%◌, ◌<◌, ◌≤◌, ◌∙◌, Bool, if◌then◌else◌, List, [], ◌∷◌, ◌++◌, length, slice_index, get_or, ⊎_elim, refl, ap, sym, subst, arith, ℤ, pos, ◌+ℤ◌, ◌*ℤ◌}
+use Rattle.std.proofs.Common.{◌≡◌, ℕ, zero, suc, ◌+◌, ◌-◌, ◌*◌, ◌%◌, ◌<◌, ◌≤◌, ◌∙◌, Bool, true, false, if◌then◌else◌, List, [], ◌∷◌, ◌++◌, length, slice_index, get_or, ⊎_elim, refl, ap, sym, subst, arith, ℤ, pos, ◌+ℤ◌, ◌*ℤ◌}
 use Rattle.std.proofs.Math.Nat.{mul-le-mul_right}
 use Rattle.std.proofs.lemmas.Bool.{cases_lt}
 use Rattle.std.proofs.lemmas.Int.{ints}
@@ -7,7 +7,7 @@ use Rattle.std.proofs.lemmas.List.{get_or_append_left, get_or-append_right}
 use Rattle.std.proofs.lemmas.Simd.{get_or-chunk, get_or-put_chunk_at, get_or-put_chunk_below, get_or-put_chunk_above}
 use lib.Lanes.{chunk, pick_l, put_chunk}
 use Rattle.sf_base.specs.Bytes.{pixel_in}
-use Rattle.sf_rows.specs.Pixels.{column_pixel, HasPixel, LiesBeside, picked, PicksColumns}
+use Rattle.sf_rows.specs.Pixels.{column_pixel, HasPixel, picked, PicksColumns}
 use Rattle.sf_rows.proofs.PickLemmas.{number_room}
 use Rattle.sf_rows.proofs.PixelLemmas.{pixel_by, pixel_same}
 
@@ -128,7 +128,7 @@ beside_two old new at i below above apart = ⊎_elim
 
 -- four pairs of pixels, one below the other
 
-below_four : (P : ℕ → Type 0) → P 0 → P 1 → P 2 → P 3 → (j : ℕ) → j < 4 → P j
+pub below_four : (P : ℕ → Type 0) → P 0 → P 1 → P 2 → P 3 → (j : ℕ) → j < 4 → P j
 below_four P p0 p1 p2 p3 zero h = p0
 below_four P p0 p1 p2 p3 (suc zero) h = p1
 below_four P p0 p1 p2 p3 (suc (suc zero)) h = p2
@@ -148,33 +148,10 @@ two_of src half left right first row k step h e f at_left at_right j m low numbe
     (λ number. f ∙ at_right row m h number)
     j low number
 
--- the rows of such pairs
-pub picks_pair : (src old new a b c d : List ℕ) (at apart : ℕ) (number : ℕ → ℕ → ℤ) → length new ≡ length old
-    → ((j : ℕ) → j < 2 → pixel_in new (at + j) ≡ pixel_in a j)
-    → ((j : ℕ) → j < 2 → pixel_in new (at + apart + j) ≡ pixel_in b j)
-    → ((j : ℕ) → j < 2 → pixel_in new (at + 2 * apart + j) ≡ pixel_in c j)
-    → ((j : ℕ) → j < 2 → pixel_in new (at + 3 * apart + j) ≡ pixel_in d j)
-    → ((i : ℕ) → LiesBeside at apart 2 i → pixel_in new i ≡ pixel_in old i)
-    → ((j m : ℕ) → j < 2 → pos m ≡ number 0 j → pixel_in a j ≡ pixel_in src m)
-    → ((j m : ℕ) → j < 2 → pos m ≡ number 1 j → pixel_in b j ≡ pixel_in src m)
-    → ((j m : ℕ) → j < 2 → pos m ≡ number 2 j → pixel_in c j ≡ pixel_in src m)
-    → ((j m : ℕ) → j < 2 → pos m ≡ number 3 j → pixel_in d j ≡ pixel_in src m)
-    → PicksColumns at apart src number 2 old new
-picks_pair src old new a b c d at apart number size first second third fourth rest in_a in_b in_c in_d = record {
-  size = size;
-  each = λ row k j h low is.
-      below_four (λ row. pos j ≡ number row k → pixel_in new (at + row * apart + k) ≡ pixel_in src j)
-      (λ is.
-      let index : at + k ≡ at + 0 * apart + k = omega arith in
-      subst (λ (n : ℕ). pixel_in new n ≡ pixel_in src j) index (first k low ∙ in_a k j low is))
-      (λ is.
-      let index : at + apart + k ≡ at + 1 * apart + k = omega arith in
-      subst (λ (n : ℕ). pixel_in new n ≡ pixel_in src j) index (second k low ∙ in_b k j low is))
-      (λ is. third k low ∙ in_c k j low is)
-      (λ is. fourth k low ∙ in_d k j low is)
-      row h is;
-  rest = rest;
-}
+-- the row whose pixels a row gets, where the rows go back or not
+pub row_within : (back : Bool) (row : ℕ) → row < 4 → (if back then 3 - row else row) < 4
+row_within true row h = omega arith
+row_within false row h = h
 
 -- pixels of different rows
 

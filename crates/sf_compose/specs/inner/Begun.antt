@@ -1,7 +1,10 @@
 -- An area of which some layers are painted, or are hidden, and the others are still to be painted.
 use Rattle.std.specs.Prelude.{◌≡◌, ℕ, ◌+◌, ◌-◌, ◌*◌, ◌<◌, ◌≤◌, Bool, true, false, List, length, drop, pos}
 use Rattle.sf_base.specs.Bytes.{pixel_in}
+use Rattle.sf_compose.specs.declared.area.Area.{Area}
+use Rattle.sf_compose.specs.declared.band.Band.{Band}
 use Rattle.sf_compose.specs.Readings.{under_drawn}
+use Rattle.sf_compose.specs.inner.Painting.{is_in_area}
 use Rattle.sf_damage.specs.sf_picture.declared.picture.Picture.{Picture}
 use Rattle.sf_damage.specs.sf_view.Image.{opaque_black}
 use Rattle.sf_damage.specs.sf_view.declared.drawn.Drawn.{Drawn}
@@ -17,3 +20,7 @@ pub record IsBegun (width top : ℕ) (test : ℕ → ℕ → Bool) (contents : L
   pub image : (x y : ℕ) → x < width → top ≤ y → test x y ≡ true
       → under_drawn contents (pos x) (pos y) (pixel_in new ((y - top) * width + x)) (drop first layers) (drop first sources)
       ≡ under_drawn contents (pos x) (pos y) opaque_black layers sources
+
+-- the same of the points of an area in the rows of a band
+abbrev pub AreaIsBegun : Band → Area → List Picture → List Drawn → List ℕ → ℕ → List ℕ → Type 0
+AreaIsBegun band area contents layers sources first new = IsBegun band.width band.top (is_in_area area) contents layers sources first new

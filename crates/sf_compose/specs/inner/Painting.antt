@@ -1,5 +1,5 @@
 -- Painting over a part of a frame: each pixel of the part becomes what is painted over what it was.
-use Rattle.std.specs.Prelude.{◌≡◌, ℕ, ◌+◌, ◌-◌, ◌*◌, ◌<◌, ◌≤◌, Bool, ◌&&◌, ◌⊎◌, if◌then◌else◌, List, length, pos}
+use Rattle.std.specs.Prelude.{◌≡◌, ℕ, ◌+◌, ◌-◌, ◌*◌, ◌<◌, ◌≤◌, Bool, ◌&&◌, if◌then◌else◌, List, length, pos}
 use Rattle.sf_base.specs.Geometry.{covers}
 use Rattle.sf_base.specs.declared.geometry.Rect.{Rect}
 use Rattle.sf_base.specs.declared.pixel.Rgba.{Rgba}
@@ -49,8 +49,3 @@ is_met area shown part = λ x y. (is_in_area area x y && covers shown (pos x) (p
 -- those that lie in a part, and where a layer shows
 abbrev pub is_shown : Area → List Rect → List Rect → ℕ → ℕ → Bool
 is_shown area part shows = λ x y. (is_in_area area x y && has part (pos x) (pos y)) && has shows (pos x) (pos y)
-
--- of an area, all points are painted, or those that lie in rectangles
-abbrev pub PaintsShown : Band → Area → List Rect → (ℕ → ℕ → Rgba → Rgba) → List ℕ → List ℕ → Type 0
-PaintsShown band area parts paint old new = Paints band.width band.top (is_in_area area) paint old new
-    ⊎ Paints band.width band.top (is_in_parts area parts) paint old new

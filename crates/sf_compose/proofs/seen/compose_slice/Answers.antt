@@ -1,17 +1,18 @@
-use Rattle.std.proofs.Common.{List, map, pos, subst}
-use Rattle.sf_damage.specs.sf_view.Image.{opaque_black}
-use Rattle.sf_damage.specs.sf_view.declared.drawn.Drawn.{Drawn}
-use Rattle.sf_compose.specs.inner.Painting.{is_in_area, Paints}
-use Rattle.sf_compose.specs.Readings.{under_drawn}
+use Rattle.std.proofs.Common.{◌≡◌, ◌<◌, ap, length, arith}
+use Rattle.sf_compose.specs.inner.Painting.{is_in_area}
+use Rattle.sf_compose.proofs.BegunLemmas.{Spares-then}
+use Rattle.sf_compose.proofs.SeenLemmas.{IsBegun-ended}
 use Rattle.sf_compose.proofs.seen.compose_slice.Goals as goal
 
-pub compose_whole-requires-clause-readable : goal.compose_whole-requires-clause-readable
-compose_whole-requires-clause-readable g c = rw c.drawn-layers.ensures.drawn c.requires.readable
+pub paint_shown-requires-clause-inside : goal.paint_shown-requires-clause-inside
+paint_shown-requires-clause-inside g c = rw c.drawn-layers.ensures.drawn at c.loop-at-test.true
 
-pub compose_shown-requires-clause-visible : goal.compose_shown-requires-clause-visible
-compose_shown-requires-clause-visible g c = rw c.in-Some.is at c.requires.visible
+pub loop-at-preserved : goal.loop-at-preserved
+loop-at-preserved g c =
+    let within : c.loop-at.at < length c.args.composition.now.view.now.drawn = rw c.drawn-layers.ensures.drawn at c.loop-at-test.true in
+    (omega (arith, within), Spares-then _ _ (is_in_area c.args.area) _ _ _ c.loop-at.invariant.1 c.paint_shown.ensures.spared, c.paint_shown.ensures.begun)
 
-pub returns-in-None : goal.returns-in-None
-returns-in-None g c =
-    subst (λ (drawn : List Drawn). Paints c.args.band.width c.args.band.top (is_in_area c.args.area) (λ x y under. under_drawn (map g.C.Pixels.picture c.args.composition.now.contents.now) (pos x) (pos y) opaque_black drawn c.args.composition.now.sources.now) c.args.frame.now c.compose_whole.new.frame) c.drawn-layers.ensures.drawn
-    c.compose_whole.ensures
+pub returns : goal.returns
+returns g c =
+    let all : length c.drawn-layers.result.now ≡ length c.args.composition.now.view.now.drawn = ap length c.drawn-layers.ensures.drawn in
+    IsBegun-ended _ _ (is_in_area c.args.area) _ _ _ c.loop-at.at _ _ (omega (arith, all, c.loop-at.invariant.0, c.loop-at-test.false)) c.loop-at.invariant.1 c.loop-at.invariant.2

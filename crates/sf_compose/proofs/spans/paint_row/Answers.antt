@@ -1,9 +1,0 @@
-use Rattle.std.proofs.Common.{◌-◌}
-use Rattle.sf_base.specs.Paint.{painted}
-use Rattle.sf_base.specs.Bytes.{pixel_in}
-use Rattle.sf_compose.proofs.SpanLemmas.{PaintsSpan-part, moved_back}
-use Rattle.sf_compose.proofs.spans.paint_row.Goals as goal
-
-pub returns : goal.returns
-returns c = PaintsSpan-part _ _ _ _ (λ i under. painted under (pixel_in c.args.row.now (i - c.args.start)) c.args.alpha) c.requires.ordered c.requires.within c.blend_row.ensures.len
-    (λ k low. rw (moved_back c.args.start k) (c.blend_row.ensures.each_pixel k low))
