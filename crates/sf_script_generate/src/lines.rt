@@ -4,6 +4,15 @@ ghost use Rattle.sf_script_generate.specs.Lines.{GrowsBy, fill_line, glass_line,
 
 use sf_base::NoMemory;
 
+/// A colour by its channels, each a byte.
+#[derive(Clone, Copy)]
+pub(crate) struct Channels {
+    pub(crate) r: u64,
+    pub(crate) g: u64,
+    pub(crate) b: u64,
+    pub(crate) a: u64,
+}
+
 /// A line of these words.
 #[tactic(auto, unfolding(crate::specs::Lines::plain_line))]
 pub(crate) fn put(text: &mut String, words: &str) -> Result<(), NoMemory>
@@ -60,19 +69,12 @@ pub(crate) fn put_fill(text: &mut String, r: u64, g: u64, b: u64) -> Result<(), 
     Ok(())
 }
 
-/// A line that fills a square of a picture with a colour of these channels, each a byte.
-pub(crate) fn put_glass(
-    text: &mut String,
-    x: u64,
-    y: u64,
-    r: u64,
-    g: u64,
-    b: u64,
-    a: u64,
-) -> Result<(), NoMemory>
-    requires bytes { (r < 256) × (g < 256) × (b < 256) × (a < 256) }
-    ensures { OnOk result (GrowsBy (glass_line x y r g b a ∷ []) (string_bytes text.old) (string_bytes text.new)) }
+/// A line that fills a square of a picture with a colour.
+pub(crate) fn put_glass(text: &mut String, x: u64, y: u64, colour: Channels) -> Result<(), NoMemory>
+    requires bytes { (colour.r < 256) × (colour.g < 256) × (colour.b < 256) × (colour.a < 256) }
+    ensures { OnOk result (GrowsBy (glass_line x y colour.r colour.g colour.b colour.a ∷ []) (string_bytes text.old) (string_bytes text.new)) }
 {
+    let Channels { r, g, b, a } = colour;
     writeln!(text, "fill {x} {y} 16 16 {r:02x}{g:02x}{b:02x}{a:02x}")?;
     Ok(())
 }

@@ -5,7 +5,7 @@ ghost use Rattle.sf_script_generate.specs.Lines.{GrowsBy};
 ghost use Rattle.sf_script_generate.specs.Generator.{actor_lines, after_draws, first_lines, frame_lines, frames_from, lines_of, picture_lines, pictures_from, producers_from};
 
 use crate::draws::Draws;
-use crate::lines::{put, put_fill, put_glass, put_numbered, put_pair, put_position};
+use crate::lines::{Channels, put, put_fill, put_glass, put_numbered, put_pair, put_position};
 use sf_base::NoMemory;
 use std::alloc::Global;
 
@@ -38,7 +38,7 @@ fn put_picture(text: &mut String, draws: &mut Draws, p: u64) -> Result<(), NoMem
     let (x, y) = (draws.below(17), draws.below(17));
     let a = draws.below(256);
     let (r, g, b) = (draws.below(a + 1), draws.below(a + 1), draws.below(a + 1));
-    put_glass(text, x, y, r, g, b, a)?;
+    put_glass(text, x, y, Channels { r, g, b, a })?;
     Ok(())
 }
 
