@@ -21,7 +21,7 @@ use Rattle.sf_actor_steps.proofs.sf_actor_lemmas.GoingOn.{keeps_on}
 use Rattle.sf_actor_steps.specs.Actors.{IsActor, IsKept, Steps}
 use Rattle.sf_actor_steps.specs.Playable.{MayPlay}
 use Rattle.sf_actor_steps.specs.declared.actor.Actor.{Actor}
-use Rattle.sf_actor_set.specs.ActorSets.{ActorSetOf, IsActorSet, KeepAs, KeepsAs, MayStep, StepsAt, numbers_of, script_of, scripts_of}
+use Rattle.sf_actor_set.specs.ActorSets.{ActorSetOf, IsActorSet, KeepAs, KeepsAs, MayStep, StepsAt, TriesAt, numbers_of, script_of, scripts_of}
 use Rattle.sf_actor_set.proofs.RisingLemmas.{rising_differ}
 
 module _ {B : Type 0} where
@@ -97,11 +97,6 @@ module _ {B : Type 0} where
   read_set (first ∷ xs) zero x low = refl
   read_set (first ∷ xs) (suc n) x low = read_set xs n x (omega arith)
 
-  -- what a try of the actor at an index comes to, whatever the traces
-  abbrev pub TriesAt : TableId → List Picture → ℕ → List (Actor B) → PlainOf B → List (Actor B) → PlainOf B → Result Stepped NoMemory → Type 0
-  TriesAt table pictures index actors before news after came_to =
-      (ofs : List (ActorOf B)) → KeepAs table (picture_at pictures) (home_of before) (view_of before) actors ofs → IfOk came_to (StepsAt table (picture_at pictures) index actors ofs before news after)
-
   -- a try of the actor at an index is one of the actor set
   pub steps_at : (table : TableId) (pictures : ℕ → Picture) (index : ℕ) (actors : List (Actor B)) (ofs : List (ActorOf B)) (before after : PlainOf B) (d one : Actor B) (came_to : Result Stepped NoMemory)
       → index < length actors → IsStrictlyIncreasing (numbers_of (scripts_of actors)) → home_of after ≡ home_of before
@@ -159,13 +154,13 @@ module _ {B : Type 0} where
 
   -- the tries of what was lent are those of the actor set
   pub as_lent : (table : TableId) (pictures shown : List Picture) (index : ℕ) (actors lent news : List (Actor B)) (before after : PlainOf B) (came_to : Result Stepped NoMemory) → shown ≡ pictures → lent ≡ actors
-      → TriesAt table shown index lent before news after came_to → TriesAt table pictures index actors before news after came_to
+      → TriesAt table (picture_at shown) index lent before news after came_to → TriesAt table (picture_at pictures) index actors before news after came_to
   as_lent table pictures shown index actors lent news before after came_to same_pictures same_actors tries =
-      subst (λ (ps : List Picture). TriesAt table ps index actors before news after came_to) same_pictures
-      (subst (λ (xs : List (Actor B)). TriesAt table shown index xs before news after came_to) same_actors tries)
+      subst (λ (ps : List Picture). TriesAt table (picture_at ps) index actors before news after came_to) same_pictures
+      (subst (λ (xs : List (Actor B)). TriesAt table (picture_at shown) index xs before news after came_to) same_actors tries)
 
   kept_unless : (table : TableId) (pictures : List Picture) (index : ℕ) (actors news : List (Actor B)) (before after : PlainOf B) (came_to : Result Stepped NoMemory)
-      → All (λ actor. IsKept table (picture_at pictures) (home_of before) actor (view_of before)) actors → TriesAt table pictures index actors before news after came_to → is_err came_to ≡ false
+      → All (λ actor. IsKept table (picture_at pictures) (home_of before) actor (view_of before)) actors → TriesAt table (picture_at pictures) index actors before news after came_to → is_err came_to ≡ false
       → All (λ actor. IsKept table (picture_at pictures) (home_of after) actor (view_of after)) news
   kept_unless table pictures index actors news before after (Err e) kept tries found = absurd (false≢true (sym found))
   kept_unless table pictures index actors news before after (Ok came_to) kept tries found = still_kept table (picture_at pictures) index actors news before after came_to kept tries
@@ -173,7 +168,7 @@ module _ {B : Type 0} where
   -- an actor set is one after a try
   pub is_actor_set_after : (table : TableId) (pictures : List Picture) (index : ℕ) (actors news : List (Actor B)) (before after : PlainOf B) (came_to : Result Stepped NoMemory) (is_spent spent : Bool) → is_spent ≡ false → spent ≡ is_err came_to
       → IsActorSet table (record { pictures = pictures; actors = actors; desk = before; is_spent = is_spent }) → scripts_of news ≡ scripts_of actors → home_of after ≡ home_of before
-      → TriesAt table pictures index actors before news after came_to → IsActorSet table (record { pictures = pictures; actors = news; desk = after; is_spent = spent })
+      → TriesAt table (picture_at pictures) index actors before news after came_to → IsActorSet table (record { pictures = pictures; actors = news; desk = after; is_spent = spent })
   is_actor_set_after table pictures index actors news before after came_to is_spent spent unspent found is scripts home tries = record {
     rising = subst (λ (ss : List ActorScript). IsStrictlyIncreasing (numbers_of ss)) (sym scripts) is.rising;
     numbered = subst (λ (ss : List ActorScript). All (λ (script : ActorScript). 1 ≤ script.number) ss) (sym scripts) is.numbered;
@@ -196,7 +191,7 @@ module _ {B : Type 0} where
 
   -- what a try of the actor set comes to
   pub whole_tries : (table : TableId) (index : ℕ) (actor_set : ActorSetOf B) (pictures : List Picture) (actors news written : List (Actor B)) (before after : PlainOf B) (is_spent : Bool) (came_to : Result Stepped NoMemory)
-      → record { pictures = pictures; actors = actors; desk = before; is_spent = is_spent } ≡ actor_set → written ≡ news → TriesAt table pictures index actors before news after came_to → TriesAt table actor_set.pictures index actor_set.actors actor_set.desk written after came_to
+      → record { pictures = pictures; actors = actors; desk = before; is_spent = is_spent } ≡ actor_set → written ≡ news → TriesAt table (picture_at pictures) index actors before news after came_to → TriesAt table (picture_at actor_set.pictures) index actor_set.actors actor_set.desk written after came_to
   whole_tries table index actor_set pictures actors news written before after is_spent came_to is same tries =
-      subst (λ (x : ActorSetOf B). TriesAt table x.pictures index x.actors x.desk written after came_to) is
-      (subst (λ (xs : List (Actor B)). TriesAt table pictures index actors before xs after came_to) (sym same) tries)
+      subst (λ (x : ActorSetOf B). TriesAt table (picture_at x.pictures) index x.actors x.desk written after came_to) is
+      (subst (λ (xs : List (Actor B)). TriesAt table (picture_at pictures) index actors before xs after came_to) (sym same) tries)

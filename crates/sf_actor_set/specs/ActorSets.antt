@@ -1,9 +1,10 @@
 -- What contracts see of an actor set. Its actors' traces are not in its memory: contracts speak of each list of traces that fits
 -- what the actors have.
-use Rattle.std.specs.Prelude.{◌≡◌, ℕ, ◌+◌, ◌≤◌, Bool, true, false, List, [], length, map, slice_get, slice_set, Some}
+use Rattle.std.specs.Prelude.{◌≡◌, ℕ, ◌+◌, ◌≤◌, Bool, true, false, List, [], length, map, slice_get, slice_set, Some, Result, IfOk}
 use Rattle.std.specs.List.{All, AllZip}
 use Rattle.std.specs.List.Sorted.{IsStrictlyIncreasing}
 use Rattle.atomic_table.specs.Seated.{TableId}
+use Rattle.sf_base.specs.declared.memory.NoMemory.{NoMemory}
 use Rattle.sf_commit.specs.sf_picture.declared.picture.Picture.{Picture}
 use Rattle.sf_actor_steps.specs.sf_script_scene.declared.declarations.QueueDecl.{QueueDecl}
 use Rattle.sf_actor_steps.specs.sf_script_scene.declared.step.ActorScript.{ActorScript}
@@ -70,6 +71,12 @@ module _ {B : Type 0} where
       pub now_at : slice_get actors index ≡ Some now_here
       pub acts : (next : Step) → next_step old ≡ Some next
           → Acts pictures (home_of before) next (length old.trace + 1) was_here.bindings (view_of before) now_here.bindings (view_of after)
+
+  -- whatever the actors are seen as, and keep, a try of the one at an index steps so, unless it runs out of memory
+  abbrev pub TriesAt : TableId → (ℕ → Picture) → ℕ → List (Actor B) → PlainOf B → List (Actor B) → PlainOf B → Result Stepped NoMemory → Type 0
+  TriesAt table pictures index was before actors after result =
+      (ofs : List (ActorOf B)) → KeepAs table pictures (home_of before) (view_of before) was ofs
+      → IfOk result (StepsAt table pictures index was ofs before actors after)
 
   -- nothing that a try leaves as it is was changed
   pub record IsSameActorSet (old new : ActorSetOf B) : Type 0 where

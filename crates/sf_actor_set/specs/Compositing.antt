@@ -1,12 +1,15 @@
 -- What a compositor that shares the desk of one thread with the actors does to it.
 use Rattle.std.specs.Prelude.{◌≡◌, ◌≢◌, ℕ, List, [], length}
 use Rattle.atomic_table.specs.Seated.{TableId}
+use Rattle.sf_actor_steps.specs.sf_surface.declared.call.QCall.TheVariants as call
+use Rattle.sf_actor_steps.specs.sf_surface.declared.call.QReply.{QReply}
 use Rattle.sf_actor_steps.specs.sf_surface.Reading.{eye_mark}
 use Rattle.sf_actor_steps.specs.sf_surface.Tokens.{Issued, ReadLeaseOf}
+use Rattle.sf_commit.specs.Releases.{ReleaseOf}
 use Rattle.sf_commit.specs.sf_token.Arrivals.{Calls, sent, waiting}
 use Rattle.sf_commit.specs.sf_token.Pending.{Arrival}
 use Rattle.sf_actor_steps.specs.sf_turns.Views.{SeatView}
-use Rattle.sf_actor_steps.specs.sf_actor.Desks.{DeskHome, DeskView, known_of}
+use Rattle.sf_actor_steps.specs.sf_actor.Desks.{DeskHome, DeskView, MadeCall, known_of}
 use Rattle.sf_actor_steps.specs.sf_actor.Known.{AreAmong, CountsRise, GoesOn}
 use Rattle.sf_actor_steps.specs.sf_actor.Plain.{PlainOf, home_of, taken_in, view_of}
 use Rattle.sf_actor_steps.specs.sf_actor.Scripts.{picture_at}
@@ -30,6 +33,12 @@ module _ {B : Type 0} where
   -- what a desk knows goes on without an entry of an actor, whose number is not 0
   abbrev pub WithoutActors : DeskHome → DeskView B → DeskView B → Type 0
   WithoutActors home old new = (actor : ℕ) → actor ≢ 0 → GoesOn actor (known_of home old) (known_of home new)
+
+  -- the compositor, whose number is 0, gave a frame back to its queue, for the vsync of this number
+  abbrev pub GivesFrameBack : PlainOf B → PlainOf B → ℕ → ReleaseOf ReadLeaseOf → Type 0
+  GivesFrameBack old new vsync release =
+      (reply : QReply B)
+      × MadeCall (home_of old) (view_of old) (view_of new) 0 release.queue.0 (vsync, call.Release release.lease release.fence) reply
 
   -- A call of the compositor, whose number is 0: the desk has what it had, but that so many of the arrivals were taken, and it
   -- goes on without an entry of an actor.

@@ -1,10 +1,9 @@
 //! The actors of a scene over one desk: a player tries one of them at a time here, and makes the
 //! calls of the compositor over the same desk.
-ghost use Rattle.std.specs.Prelude.{◌≡◌, ◌<◌, List, length, IfOk};
-ghost use Rattle.sf_actor_steps.specs.sf_actor.Plain.{home_of, view_of};
+ghost use Rattle.std.specs.Prelude.{◌≡◌, ◌<◌, length};
+ghost use Rattle.sf_actor_steps.specs.sf_actor.Plain.{home_of};
 ghost use Rattle.sf_actor_steps.specs.sf_actor.Scripts.{picture_at};
-ghost use Rattle.sf_actor_steps.specs.sf_actor.Tries.{ActorOf};
-ghost use Rattle.sf_actor_set.specs.ActorSets.{KeepAs, MayStep, StepsAt, scripts_of};
+ghost use Rattle.sf_actor_set.specs.ActorSets.{MayStep, TriesAt, scripts_of};
 
 use crate::compositing::{legal_each, owns_at, release_at, see_at, take_at, vsync_at};
 use crate::open::{open_actors, open_queues};
@@ -45,8 +44,7 @@ fn try_at<B: TableName>(
 ) -> Result<Stepped, NoMemory>
     requires there { index < length actors.old }
     requires may { MayStep B.table pictures.now actors.old desk.old }
-    ensures steps { (ofs : List (ActorOf B)) → KeepAs B.table (picture_at pictures.now) (home_of desk.old) (view_of desk.old) actors.old ofs
-        → IfOk result (StepsAt B.table (picture_at pictures.now) index actors.old ofs desk.old actors.new desk.new) }
+    ensures steps { TriesAt B.table (picture_at pictures.now) index actors.old desk.old actors.new desk.new result }
     ensures scripts { scripts_of actors.new ≡ scripts_of actors.old }
     ensures home { home_of desk.new ≡ home_of desk.old }
 {
@@ -54,22 +52,20 @@ fn try_at<B: TableName>(
 }
 
 impl<B: TableName> ActorSet<B> {
-    ghost use Rattle.std.specs.Prelude.{◌≡◌, ℕ, ◌<◌, ◌==◌, true, false, List, length, IfOk, IfErr, IfSome, IsErr, OnErr};
+    ghost use Rattle.std.specs.Prelude.{◌≡◌, ℕ, ◌<◌, ◌==◌, true, false, length, IfOk, IfErr, IfSome, IsErr, OnErr};
     ghost use Rattle.std.specs.List.{position};
     ghost use Rattle.sf_commit.specs.sf_calls.Histories.{IsLegal};
     ghost use Rattle.sf_actor_steps.specs.sf_surface.Histories.{Answers};
     ghost use Rattle.sf_commit.specs.Handlers.{Decides, Stops, last_of};
-    ghost use Rattle.sf_actor_steps.specs.sf_surface.declared.call.QCall.TheVariants as call;
-    ghost use Rattle.sf_actor_steps.specs.sf_surface.declared.call.QReply.{QReply as ReplyOf};
     ghost use Rattle.sf_commit.specs.sf_token.Pending.{IsRisingFrom};
     ghost use Rattle.sf_actor_steps.specs.sf_turns.Counts.{range};
-    ghost use Rattle.sf_actor_steps.specs.sf_actor.Desks.{IsAsBefore, KnowsAll, MadeCall, has_queue, mark_among};
+    ghost use Rattle.sf_actor_steps.specs.sf_actor.Desks.{IsAsBefore, KnowsAll, has_queue, mark_among};
     ghost use Rattle.sf_actor_steps.specs.sf_actor.Plain.{home_of, taken_in, view_of};
     ghost use Rattle.sf_actor_steps.specs.sf_actor.Scripts.{picture_at};
-    ghost use Rattle.sf_actor_steps.specs.sf_actor.Tries.{ActorOf, Sees};
+    ghost use Rattle.sf_actor_steps.specs.sf_actor.Tries.{Sees};
     ghost use Rattle.sf_actor_steps.specs.declared.actor.Actor.{Actor as ActorIn};
-    ghost use Rattle.sf_actor_set.specs.ActorSets.{IsActorSet, IsSameActorSet, KeepAs, Opens, StepsAt, number_of};
-    ghost use Rattle.sf_actor_set.specs.Compositing.{OnlyDesk, Takes};
+    ghost use Rattle.sf_actor_set.specs.ActorSets.{IsActorSet, IsSameActorSet, Opens, TriesAt, number_of};
+    ghost use Rattle.sf_actor_set.specs.Compositing.{GivesFrameBack, OnlyDesk, Takes};
     ghost use Rattle.sf_actor_set.specs.Scripts.{AreOfScene, permits_of};
 
     /// The actors of a scene, which have done nothing, over its queues, which have no calls. It takes
@@ -161,8 +157,7 @@ impl<B: TableName> ActorSet<B> {
     /// more steps.
     pub fn try_step(&mut self, index: usize) -> Result<Stepped, NoMemory>
         requires there { index < length self.old.actors }
-        ensures steps { (ofs : List (ActorOf B)) → KeepAs B.table (picture_at self.old.pictures) (home_of self.old.desk) (view_of self.old.desk) self.old.actors ofs
-            → IfOk result (StepsAt B.table (picture_at self.old.pictures) index self.old.actors ofs self.old.desk self.new.actors self.new.desk) }
+        ensures steps { TriesAt B.table (picture_at self.old.pictures) index self.old.actors self.old.desk self.new.actors self.new.desk result }
         ensures same { IsSameActorSet self.old self.new }
         ensures many { length self.new.actors ≡ length self.old.actors }
         ensures ok { IfOk result (λ _. self.new.is_spent ≡ false) }
@@ -250,8 +245,7 @@ impl<B: TableName> ActorSet<B> {
     /// runs out nothing was done but that the frame is dropped.
     pub fn release(&mut self, vsync: u32, release: Release<ReadLease<B>>) -> Result<(), NoMemory>
         requires there { has_queue (home_of self.old.desk) release.queue.0 ≡ true }
-        ensures released { IfOk result (λ _. (reply : ReplyOf B)
-            × MadeCall (home_of self.old.desk) (view_of self.old.desk) (view_of self.new.desk) 0 release.queue.0 (vsync, call.Release release.lease release.fence) reply) }
+        ensures released { IfOk result (λ _. GivesFrameBack self.old.desk self.new.desk vsync release) }
         ensures as_before { IfErr result (λ _. IsAsBefore (view_of self.old.desk) (view_of self.new.desk)) }
         ensures only { OnlyDesk B.table (taken_in self.old.desk.arrivals) self.old self.new }
     {

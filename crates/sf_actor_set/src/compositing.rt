@@ -1,17 +1,15 @@
 //! The calls of a compositor that shares the desk of one thread with the actors. It calls as number
 //! 0, which no actor has, so that every actor keeps what it keeps.
 ghost use Rattle.std.specs.Prelude.{◌≡◌, false, true, IfErr, IfOk, IsErr, OnErr};
-ghost use Rattle.sf_actor_steps.specs.sf_actor.Desks.{IsAsBefore, MadeCall, has_queue};
+ghost use Rattle.sf_actor_steps.specs.sf_actor.Desks.{IsAsBefore, has_queue};
 ghost use Rattle.sf_actor_steps.specs.sf_actor.Plain.{home_of, taken_in, view_of};
 ghost use Rattle.sf_actor_steps.specs.sf_actor.Tries.{Sees};
-ghost use Rattle.sf_actor_set.specs.Compositing.{GoesOnDesk, SeatGoesOn, Takes};
+ghost use Rattle.sf_actor_set.specs.Compositing.{GivesFrameBack, GoesOnDesk, SeatGoesOn, Takes};
 ghost use Rattle.sf_commit.specs.Handlers.{Decides, Stops, last_of};
 ghost use Rattle.std.specs.List.{All};
 ghost use Rattle.sf_commit.specs.sf_calls.Histories.{IsLegal};
 ghost use Rattle.sf_actor_steps.specs.sf_surface.Histories.{Answers};
 ghost use Rattle.sf_actor_steps.specs.sf_surface.Objects.{ObjectOf, mark_of};
-ghost use Rattle.sf_actor_steps.specs.sf_surface.declared.call.QCall.TheVariants as call;
-ghost use Rattle.sf_actor_steps.specs.sf_surface.declared.call.QReply.{QReply as ReplyOf};
 ghost use Rattle.sf_commit.specs.sf_token.Arrivals.{sent};
 ghost use Rattle.sf_commit.specs.sf_token.Pending.{IsRisingFrom};
 
@@ -128,8 +126,7 @@ pub fn release_at<B: TableName>(
     release: Release<ReadLease<B>>,
 ) -> Result<(), NoMemory>
     requires there { has_queue (home_of desk.old) release.queue.0 ≡ true }
-    ensures released { IfOk result (λ _. (reply : ReplyOf B)
-        × MadeCall (home_of desk.old) (view_of desk.old) (view_of desk.new) 0 release.queue.0 (vsync, call.Release release.lease release.fence) reply) }
+    ensures released { IfOk result (λ _. GivesFrameBack desk.old desk.new vsync release) }
     ensures as_before { IfErr result (λ _. IsAsBefore (view_of desk.old) (view_of desk.new)) }
     ensures goes { GoesOnDesk (taken_in desk.old.arrivals) desk.old desk.new }
 {

@@ -1,5 +1,6 @@
 use Rattle.std.proofs.Common.{◌∙◌, ap, List, length}
 use Rattle.sf_actor_steps.specs.declared.actor.Actor.{Actor}
+use Rattle.sf_actor_steps.specs.sf_actor.Plain.{home_of}
 use Rattle.sf_actor_set.specs.ActorSets.{ActorSetOf, scripts_of}
 use Rattle.sf_actor_set.proofs.SteppingLemmas.{as_lent, is_actor_set_after, many_same, may_step, whole_tries, written_back}
 use Rattle.sf_actor_set.proofs.actor_set.ActorSet.try_step.Goals as goal
@@ -26,3 +27,13 @@ returns-clause-many g c =
     let scripts = c.try_at-tried.ensures.scripts ∙ ap (scripts_of {B = g.row.B.Denot}) c.deref_mut.ensures.value in
     let back = written_back c.try_at-tried.new.actors c.self.inside.actors.items c.self.inside.actors.len c.self.inside.actors.ok.0 scripts in
     ap (λ (actors : List (Actor g.row.B.Denot)). length actors) back ∙ many_same c.try_at-tried.new.actors c.self.inside.actors.items scripts ∙ ap (λ (actor_set : ActorSetOf g.row.B.Denot). length actor_set.actors) c.self.view_is
+
+pub returns-clause-same : goal.returns-clause-same
+returns-clause-same g c =
+    let scripts = c.try_at-tried.ensures.scripts ∙ ap (scripts_of {B = g.row.B.Denot}) c.deref_mut.ensures.value in
+    let back = written_back c.try_at-tried.new.actors c.self.inside.actors.items c.self.inside.actors.len c.self.inside.actors.ok.0 scripts in
+    record {
+      pictures = ap (λ (actor_set : ActorSetOf g.row.B.Denot). actor_set.pictures) c.self.view_is;
+      scripts = ap (scripts_of {B = g.row.B.Denot}) back ∙ scripts ∙ ap (λ (actor_set : ActorSetOf g.row.B.Denot). scripts_of actor_set.actors) c.self.view_is;
+      home = c.try_at-tried.ensures.home ∙ ap (λ (actor_set : ActorSetOf g.row.B.Denot). home_of actor_set.desk) c.self.view_is;
+    }
