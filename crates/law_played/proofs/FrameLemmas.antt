@@ -6,6 +6,7 @@ use Rattle.std.proofs.lemmas.List.Elements.{All-append, All-filter, All-map, All
 use Rattle.sf_base.specs.declared.ids.LayerId.{LayerId}
 use Rattle.sf_compose.specs.Frames.{frame_bytes}
 use Rattle.sf_compose.specs.sf_layer.declared.layer.Layer.{Layer}
+use Rattle.sf_record.specs.sf_output.declared.image.ImageId.TheVariants as id
 use Rattle.sf_record.specs.sf_output.declared.output.Output.{Output}
 use Rattle.sf_record.specs.sf_output.declared.output.Output.TheVariants as out
 use Rattle.sf_script_scene.specs.sf_picture.declared.picture.Picture.{Picture}
@@ -45,12 +46,16 @@ planned scene one = λ i. record {
   hits = map hit_plan (rising (λ (h : HitDecl). h.number) 64 (one.no_hits i));
 }
 
+-- the frame of the scene's own display
+abbrev own_frame : List ℕ → Output (List ℕ)
+own_frame pixels = out.Image (record { of = id.Frame; shows = pixels })
+
 -- all layers are on stack 0, and none is copied
 shown_alone : (pictures : ℕ → Picture) (width height : ℕ) (layers : List Layer)
-    → shown_due pictures (bare_plan width height) layers ≡ (out.Frame (frame_bytes (λ x y. image pictures layers (pos x) (pos y)) width height) ∷ [])
+    → shown_due pictures (bare_plan width height) layers ≡ (own_frame (frame_bytes (λ x y. image pictures layers (pos x) (pos y)) width height) ∷ [])
 unfolding shown_due written frame_of image
 shown_alone pictures width height layers =
-    ap (λ (order : List LayerId). out.Frame (frame_bytes (λ x y. image_in pictures layers order (pos x) (pos y)) width height) ∷ []) (no_stacks layers)
+    ap (λ (order : List LayerId). own_frame (frame_bytes (λ x y. image_in pictures layers order (pos x) (pos y)) width height) ∷ []) (no_stacks layers)
 
 pub frame_alone : (scene : SceneValue) (commits : List CommitRecord) (tree : TreeOf) → HasOneOutput scene
     → shown_after scene commits tree ≡ frame_after scene commits tree

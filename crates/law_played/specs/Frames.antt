@@ -5,6 +5,7 @@ use Rattle.std.specs.List.{All, list_any}
 use Rattle.sf_compose.specs.Frames.{frame_bytes}
 use Rattle.sf_compose.specs.sf_layer.declared.layer.Layer.{Layer}
 use Rattle.sf_record.specs.sf_output.Outputs.{map_output}
+use Rattle.sf_record.specs.sf_output.declared.image.ImageId.TheVariants as id
 use Rattle.sf_record.specs.sf_output.declared.output.Output.{Output}
 use Rattle.sf_record.specs.sf_output.declared.output.Output.TheVariants as out
 use Rattle.sf_script_scene.specs.sf_picture.declared.picture.Picture.{Picture}
@@ -87,4 +88,5 @@ tree_frame scene layers = frame_bytes (λ x y. image (picture_at scene.pictures)
 
 -- what a vsync shows of a scene that asks for one output: the frame of its tree, where a commit was not rejected
 abbrev pub frame_after : SceneValue → List CommitRecord → TreeOf → List (Output (List ℕ))
-frame_after scene commits tree = if list_any is_done commits then out.Frame (tree_frame scene tree.layers) ∷ [] else []
+frame_after scene commits tree =
+    if list_any is_done commits then out.Image (record { of = id.Frame; shows = tree_frame scene tree.layers }) ∷ [] else []

@@ -5,6 +5,7 @@ use Rattle.sf_script_scene.specs.declared.change.Change.TheVariants as change
 use Rattle.sf_script_scene.specs.declared.step.ActorScript.{ActorScript}
 use Rattle.sf_script_scene.specs.declared.step.Step.{Step}
 use Rattle.sf_script_scene.specs.declared.step.Step.TheVariants as step
+use Rattle.sf_record.specs.sf_output.declared.image.ImageId.TheVariants as id
 use Rattle.sf_record.specs.sf_output.declared.output.Output.TheVariants as out
 use Rattle.sf_record.specs.declared.event.Event.{Event}
 use Rattle.sf_record.specs.declared.event.Event.TheVariants as event
@@ -39,7 +40,7 @@ least_vsync = record {
   expected = 16666667;
   timelines = [];
   commits = least_commit ∷ [];
-  shown = out.Frame (255 ∷ 0 ∷ 0 ∷ 255 ∷ 255 ∷ 0 ∷ 0 ∷ 255 ∷ []) ∷ [];
+  shown = out.Image (record { of = id.Frame; shows = 255 ∷ 0 ∷ 0 ∷ 255 ∷ 255 ∷ 0 ∷ 0 ∷ 255 ∷ [] }) ∷ [];
 }
 
 abbrev pub least_events : List Event

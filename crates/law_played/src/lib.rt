@@ -38,7 +38,7 @@ pub use sf_actor::{HistEntry, QueueObject, ReadLease, Reply, Stepped, Stock, Tab
 pub use sf_commit::{ArrvEntry, Commit, Committed, Handler, Hold, Lease, Release};
 pub use sf_compose::{Content, Drawn, Shown, View};
 pub use sf_output_plan::{CapturePlan, DisplayPlan, HitPlan, Plan, ViewsDue, views_due};
-pub use sf_record::sf_output::Output;
+pub use sf_record::sf_output::{Image, ImageId, Output};
 pub use sf_record::{
     ArrivalEntry, CommitRecord, CommittedBuffer, HeldEntry, HistoryEntry, Hit, QueueHistory,
     Record, ReplyRecord, RunFault, SceneHeader, StuckEntry, TimelineValue, VsyncHeader,

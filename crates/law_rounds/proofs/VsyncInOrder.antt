@@ -30,7 +30,7 @@ use Rattle.sf_play.specs.sf_token.Pending.{Arrival}
 use Rattle.sf_play.specs.sf_play_report.sf_txn.declared.lease.Lease.{Ghosts}
 use Rattle.sf_play.specs.law_played.Actors.{arrivals_of, run_of, trace_among}
 use Rattle.sf_play.specs.law_played.Arrivals.{entry_of}
-use Rattle.sf_play.specs.Giving.{GivesFrames}
+use Rattle.sf_play.specs.law_rights.Standing.{GiveAll}
 use Rattle.sf_play.specs.Players.{PlayOf, home_in, view_in}
 use Rattle.sf_play.specs.Vsyncing.{MakesVsync}
 
@@ -40,7 +40,7 @@ module _ {B : Type 0} where
   run_with marks ofs view = record { trace = trace_among ofs; calls = λ queue. told_calls (mark_among marks queue) (view.calls queue) }
 
   -- frames that go back are calls of the compositor, in the step of their vsync
-  all_given : (home : DeskHome) (exact : home.is_exact ≡ true) (number : ℕ) (ofs : List (ActorOf B)) (releases : List (ReleaseOf ReadLeaseOf)) (old new : DeskView B) → GivesFrames home number releases old new
+  all_given : (home : DeskHome) (exact : home.is_exact ≡ true) (number : ℕ) (ofs : List (ActorOf B)) (releases : List (ReleaseOf ReadLeaseOf)) (old new : DeskView B) → GiveAll home number releases old new
       → AddsCalls 0 number (run_of ofs home old) (run_of ofs home new)
   all_given home exact number ofs [] old new gives =
       adds_none 0 number (run_of ofs home old) (run_of ofs home new) (λ queue. ap (λ (v : DeskView B). told_calls (mark_among home.marks queue) (v.calls queue)) gives)
@@ -48,7 +48,7 @@ module _ {B : Type 0} where
       adds_both 0 number (run_of ofs home old) (run_of ofs home mid) (run_of ofs home new) (adds_one home old mid 0 release.queue.0 number _ one.reply exact one.made ofs ofs)
       (all_given home exact number ofs later mid new rest)
 
-  arrivals_stay : (home : DeskHome) (number : ℕ) (releases : List (ReleaseOf ReadLeaseOf)) (old new : DeskView B) → GivesFrames home number releases old new → new.arrivals ≡ old.arrivals
+  arrivals_stay : (home : DeskHome) (number : ℕ) (releases : List (ReleaseOf ReadLeaseOf)) (old new : DeskView B) → GiveAll home number releases old new → new.arrivals ≡ old.arrivals
   arrivals_stay home number [] old new gives = ap (λ (v : DeskView B). v.arrivals) gives
   arrivals_stay home number (release ∷ later) old new (mid, one, rest) = arrivals_stay home number later mid new rest ∙ ap (λ (v : DeskView B). v.arrivals) one.made.changes.same
 

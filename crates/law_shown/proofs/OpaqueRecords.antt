@@ -11,12 +11,14 @@ use Rattle.law_played.specs.sf_actor.Names.{FrameOf}
 use Rattle.law_played.specs.sf_actor.Scripts.{picture_at}
 use Rattle.law_played.specs.sf_layer.declared.layer.Layer.{Layer}
 use Rattle.law_played.specs.sf_output.Outputs.{map_output}
+use Rattle.law_played.specs.sf_output.declared.image.ImageId.{ImageId}
+use Rattle.law_played.specs.sf_output.declared.image.ImageId.TheVariants as id
 use Rattle.law_played.specs.sf_output.declared.output.Output.{Output}
 use Rattle.law_played.specs.sf_output.declared.output.Output.TheVariants as out
 use Rattle.law_played.specs.sf_output_plan.Due.{ImageDue, outputs_due}
 use Rattle.law_played.specs.sf_output_plan.declared.plan.Plan.{Plan}
 use Rattle.law_played.specs.sf_picture.declared.picture.Picture.{Picture}
-use Rattle.law_played.specs.sf_record.Events.{closing, event_records, events_records, output_record, vsync_records}
+use Rattle.law_played.specs.sf_record.Events.{closing, event_records, events_records, image_record, output_record, vsync_records}
 use Rattle.law_played.specs.sf_record.declared.event.Event.{Event}
 use Rattle.law_played.specs.sf_record.declared.event.Event.TheVariants as event
 use Rattle.law_played.specs.sf_record.declared.event.VsyncRecords.{VsyncRecords}
@@ -59,10 +61,13 @@ frame_opaque pictures due =
     rows_opaque (λ y. flat_map (λ x. four_bytes (image_in pictures due.layers due.order (pos x) (pos y))) (range_with_len 0 due.width)) (range_with_len 0 due.height)
     (λ y. row_opaque (λ x. image_in pictures due.layers due.order (pos x) (pos y)) (range_with_len 0 due.width) (λ x. image_opaque pictures due.layers due.order (pos x) (pos y)))
 
+record_opaque : (of : ImageId) (number : ℕ) (pixels : List ℕ) → IsOpaque pixels → HasOpaqueImage (image_record of number pixels)
+record_opaque id.Frame number pixels opaque = opaque
+record_opaque (id.Display output) number pixels opaque = opaque
+record_opaque (id.Capture output) number pixels opaque = opaque
+
 output_opaque : (pictures : ℕ → Picture) (number : ℕ) (one : Output ImageDue) → HasOpaqueImage (output_record number (map_output (frame_of pictures) one))
-output_opaque pictures number (out.Frame due) = frame_opaque pictures due
-output_opaque pictures number (out.Display place due) = frame_opaque pictures due
-output_opaque pictures number (out.Capture place due) = frame_opaque pictures due
+output_opaque pictures number (out.Image image) = record_opaque image.of number (frame_of pictures image.shows) (frame_opaque pictures image.shows)
 output_opaque pictures number (out.Hit place layer) = tt
 
 due_opaque : (pictures : ℕ → Picture) (number : ℕ) (dues : List (Output ImageDue)) → AllByRecursion HasOpaqueImage (map (output_record number) (map (map_output (frame_of pictures)) dues))

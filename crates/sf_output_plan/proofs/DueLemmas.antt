@@ -16,16 +16,16 @@ use Rattle.sf_display.specs.sf_view.Views.{IsView, ViewOf, ViewsInOrder}
 use Rattle.sf_display.proofs.sf_view_lemmas.IntervalLemmas.{and_left, and_right}
 use Rattle.sf_display.specs.sf_output_shown.Hits.{front, hit_in}
 use Rattle.sf_display.proofs.sf_output_shown_lemmas.HitLemmas.{in_front, off_display}
+use Rattle.sf_output.specs.declared.image.ImageId.TheVariants as id
 use Rattle.sf_output.specs.declared.output.Output.TheVariants as out
 use Rattle.sf_output.specs.Outputs.{IsOutput}
 use Rattle.sf_output.specs.declared.output.Output.{Output}
-use Rattle.sf_output_plan.specs.Due.{AreShown, SameOrders, ShowsDue, capture_due, display_due, hit_due, id_of, others_due}
+use Rattle.sf_output_plan.specs.Due.{AreShown, SameOrders, ShowsDue, capture_due, captured, display_due, hit_due, id_of, others_due}
 use Rattle.sf_output_plan.specs.declared.plan.CapturePlan.{CapturePlan}
 use Rattle.sf_output_plan.specs.declared.plan.DisplayPlan.{DisplayPlan}
 use Rattle.sf_output_plan.specs.declared.plan.Plan.{Plan}
 use Rattle.sf_display.specs.sf_output_shown.Copies.{written}
 use Rattle.sf_display.specs.sf_output_shown.Cuts.{cut, cut_of}
-use Rattle.sf_display.specs.sf_tree.DrawOrder.{draw_order}
 use Rattle.sf_display.specs.sf_tree.Layers.{has_layer}
 use Rattle.sf_display.specs.sf_tree.Trees.{TreeOf}
 
@@ -80,15 +80,16 @@ hit_is tree order width height view v kept x y = by_test (is_in_display width he
 -- the same by fewer stacks
 pub same_displays : (layers : List Layer) (some all : List (ℕ × ℕ)) → SameOrders layers some all → (ds : List DisplayPlan) → map (display_due some layers) ds ≡ map (display_due all layers) ds
 same_displays layers some all same ds =
-    λ i. map (λ (d : DisplayPlan). out.Display d.number (record { layers = layers; order = same d.stack i; width = d.width; height = d.height })) ds
+    λ i. map
+    (λ (d : DisplayPlan). out.Image (record { of = id.Display d.number; shows = record { layers = layers; order = same d.stack i; width = d.width; height = d.height } })) ds
 
 -- a captured layer that is there, and one that is not
 pub cut_there : (tree : List Layer) (capture : CapturePlan) (made : TreeOf) → Some made ≡ cut_of tree (id_of capture.layer)
-    → capture_due tree capture ≡ (out.Capture capture.number (record { layers = made.layers; order = draw_order made.layers; width = capture.width; height = capture.height }) ∷ [])
+    → capture_due tree capture ≡ (out.Image (record { of = id.Capture capture.number; shows = captured capture made.layers }) ∷ [])
 cut_there tree capture made e = elim (cases_Bool (has_layer tree (id_of capture.layer))) [
   | inl met ↦
       let same = same_Some made (record { layers = cut tree (id_of capture.layer); most = 9216 }) (rw met at e) in
-      rw met (ap (λ (t : TreeOf). out.Capture capture.number (record { layers = t.layers; order = draw_order t.layers; width = capture.width; height = capture.height }) ∷ []) (sym same))
+      rw met (ap (λ (t : TreeOf). out.Image (record { of = id.Capture capture.number; shows = captured capture t.layers }) ∷ []) (sym same))
   | inr unmet ↦ absurd (none-some made (sym (rw unmet at e)))
 ]
 

@@ -5,6 +5,7 @@ use Rattle.std.specs.Option.{option_map_or}
 use Rattle.sf_base.specs.declared.ids.LayerId.{LayerId}
 use Rattle.sf_display.specs.sf_layer.declared.layer.Layer.{Layer}
 use Rattle.sf_output.specs.Outputs.{IsOutput}
+use Rattle.sf_output.specs.declared.image.ImageId.TheVariants as id
 use Rattle.sf_output.specs.declared.output.Output.{Output}
 use Rattle.sf_output.specs.declared.output.Output.TheVariants as out
 use Rattle.sf_display.specs.sf_tree.DrawOrder.{draw_order}
@@ -33,22 +34,26 @@ on_stack stacks layers stack width height =
 
 -- the image that is due of a further display: that of its stack
 abbrev pub display_due : List (ℕ × ℕ) → List Layer → DisplayPlan → Output ImageDue
-display_due stacks layers display = out.Display display.number (on_stack stacks layers display.stack display.width display.height)
+display_due stacks layers display =
+    out.Image (record { of = id.Display display.number; shows = on_stack stacks layers display.stack display.width display.height })
 
 -- the frame of the scene's own display, which shows stack 0, of layers in which mirrors are written out
 abbrev pub frame_due : Plan → List Layer → ImageDue
 frame_due plan layers = on_stack plan.stacks layers 0 plan.width plan.height
 
--- a capture shows a layer with all below it by itself, without mirrors, if the layer is there
+-- the layer of this number
 abbrev pub id_of : ℕ → LayerId
 id_of number = record { 0 = number }
 
--- the image that is due of a capture: that of its layer with all below it, if it is there
+-- the image of a capture that shows these layers
+abbrev pub captured : CapturePlan → List Layer → ImageDue
+captured capture layers = record { layers = layers; order = draw_order layers; width = capture.width; height = capture.height }
+
+-- the image that is due of a capture: that of its layer with all below it by itself, without mirrors, if the layer is there
 abbrev pub capture_due : List Layer → CapturePlan → List (Output ImageDue)
 capture_due tree capture =
     if has_layer tree (id_of capture.layer)
-    then (let layers = cut tree (id_of capture.layer) in
-    out.Capture capture.number (record { layers = layers; order = draw_order layers; width = capture.width; height = capture.height }) ∷ [])
+    then out.Image (record { of = id.Capture capture.number; shows = captured capture (cut tree (id_of capture.layer)) }) ∷ []
     else []
 
 -- a hit answers the layer in front on the scene's own display, without mirrors
@@ -66,7 +71,7 @@ others_due plan tree =
 
 -- the outputs due of a tree, in order
 abbrev pub outputs_due : Plan → List Layer → List (Output ImageDue)
-outputs_due plan tree = out.Frame (frame_due plan (written tree plan.mirrors)) ∷ others_due plan tree
+outputs_due plan tree = out.Image (record { of = id.Frame; shows = frame_due plan (written tree plan.mirrors) }) ∷ others_due plan tree
 
 -- a view shows the output due
 abbrev pub ShowsDue : ImageDue → ViewOf → Type 0

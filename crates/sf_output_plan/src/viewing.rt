@@ -19,7 +19,7 @@ use sf_display::sf_tree::Tree;
 use sf_display::sf_view::{View, view_of};
 use sf_display::{display_view, stacks_in};
 use sf_mirror::written;
-use sf_output::Output;
+use sf_output::{Image, ImageId, Output};
 use std::alloc::Global;
 
 /// The views of what a vsync shows.
@@ -52,7 +52,10 @@ fn displays(
             display.width,
             display.height,
         )?;
-        views.push(Output::Display(display.number, view))?;
+        views.push(Output::Image(Image {
+            of: ImageId::Display(display.number),
+            shows: view,
+        }))?;
     }
     Ok(views)
 }
@@ -72,7 +75,10 @@ fn captures(
             continue;
         };
         let view = view_of(alloc, &layers, capture.width, capture.height)?;
-        views.push(Output::Capture(capture.number, view))?;
+        views.push(Output::Image(Image {
+            of: ImageId::Capture(capture.number),
+            shows: view,
+        }))?;
     }
     Ok(views)
 }

@@ -21,7 +21,7 @@ use Rattle.sf_compose.proofs.RowLemmas.{frame-from}
 use Rattle.sf_compose.specs.sf_damage.Damage.{Damages}
 use Rattle.sf_compose.specs.sf_picture.declared.picture.Picture.{Picture}
 use Rattle.sf_compose.specs.sf_region.Points.{has}
-use Rattle.sf_output.specs.declared.output.Output.{Output}
+use Rattle.sf_output.specs.declared.image.ImageId.{ImageId}
 use Rattle.sf_output_screen.specs.ScreenLists.{bare_screen, is_of, screen_of}
 use Rattle.sf_output_screen.specs.declared.screens.OutputScreen.{OutputScreen}
 use Rattle.sf_output_screen.specs.Screens.{IsSameSize, IsWhole, image_bytes}
@@ -90,8 +90,8 @@ composed_behind xs ys old len long room part =
     ap (λ (l : List ℕ). drop 8 l) (take_at (put_mid 8 (length xs - 8) xs ys) _ len put)
     ∙ behind xs ys (omega (arith, long, room)) (omega (arith, long, part))
 
--- the screen of an output by its index among all, or the bare one where it has none
-pub own_at : (screens : List OutputScreen) (of : Output (Unit {0})) (index : ℕ) (one : OutputScreen) → Some index ≡ position (is_of of) screens → one ≡ get_or screens index one → one.screen ≡ screen_of screens of
+-- the screen of an image by its index among all, or the bare one where it has none
+pub own_at : (screens : List OutputScreen) (of : ImageId) (index : ℕ) (one : OutputScreen) → Some index ≡ position (is_of of) screens → one ≡ get_or screens index one → one.screen ≡ screen_of screens of
 own_at screens of index one e is = elim (cases_Bool (nat_lt (position_or_len (is_of of) screens) (length screens))) [
   | inl below ↦
       let same : index ≡ position_or_len (is_of of) screens = same_Some index (position_or_len (is_of of) screens) (rw below at e) in
@@ -100,7 +100,7 @@ own_at screens of index one e is = elim (cases_Bool (nat_lt (position_or_len (is
   | inr none ↦ absurd (none-some index (sym (rw none at e)))
 ]
 
-pub bare_at : (screens : List OutputScreen) (of : Output (Unit {0})) → None ≡ position (is_of of) screens → bare_screen ≡ screen_of screens of
+pub bare_at : (screens : List OutputScreen) (of : ImageId) → None ≡ position (is_of of) screens → bare_screen ≡ screen_of screens of
 bare_at screens of e = elim (cases_Bool (nat_lt (position_or_len (is_of of) screens) (length screens))) [
   | inl below ↦ absurd (none-some (position_or_len (is_of of) screens) (rw below at e))
   | inr none ↦

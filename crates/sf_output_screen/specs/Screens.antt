@@ -1,8 +1,8 @@
 -- What a display shows.
-use Rattle.std.specs.Prelude.{◌≡◌, ℕ, ◌+◌, ◌*◌, Bool, true, false, List, ◌++◌, drop, length, pos, Option, IfSome}
+use Rattle.std.specs.Prelude.{◌≡◌, ℕ, ◌+◌, ◌*◌, List, ◌++◌, drop, length, pos, Option, IfSome}
 use Rattle.byteorder.specs.Endian.{big_bytes}
-use Rattle.sf_output.specs.declared.output.Output.{Output}
-use Rattle.sf_output.specs.declared.output.Output.TheVariants as out
+use Rattle.sf_output.specs.declared.image.ImageId.{ImageId}
+use Rattle.sf_output.specs.declared.image.ImageId.TheVariants as id
 use Rattle.sf_compose.specs.sf_picture.declared.picture.Picture.{Picture}
 use Rattle.sf_compose.specs.sf_view.Stacks.{view_image}
 use Rattle.sf_compose.specs.sf_view.Views.{ViewOf}
@@ -47,31 +47,22 @@ pub record IsSameSize (frame : List ℕ) (new old : ViewOf) : Type 0 where
   pub high : old.height ≡ new.height
   pub whole : IsWhole new frame
 
--- the output has an image
-abbrev pub is_image : Output (Unit {0}) → Bool
-is_image (out.Frame u) = true
-is_image (out.Display output u) = true
-is_image (out.Capture output u) = true
-is_image (out.Hit output layer) = false
-
 -- the number of a further display or of a capture, 0 for the frame of the scene's own display
-abbrev pub output_of : Output (Unit {0}) → ℕ
-output_of (out.Frame u) = 0
-output_of (out.Display output u) = output
-output_of (out.Capture output u) = output
-output_of (out.Hit output layer) = output
+abbrev pub output_of : ImageId → ℕ
+output_of id.Frame = 0
+output_of (id.Display output) = output
+output_of (id.Capture output) = output
 
 -- the record's body begins at the last of the numbers for the frame of the scene's own display, and else at the first
-abbrev pub begin_of : Output (Unit {0}) → ℕ
-begin_of (out.Frame u) = 4
-begin_of (out.Display output u) = 0
-begin_of (out.Capture output u) = 0
-begin_of (out.Hit output layer) = 0
+abbrev pub begin_of : ImageId → ℕ
+begin_of id.Frame = 4
+begin_of (id.Display output) = 0
+begin_of (id.Capture output) = 0
 
 -- the numbers in front of an image: of its display or capture, and of its vsync
-abbrev pub numbers_of : Output (Unit {0}) → ℕ → List ℕ
+abbrev pub numbers_of : ImageId → ℕ → List ℕ
 numbers_of of number = big_bytes 4 (output_of of) ++ big_bytes 4 number
 
 -- the numbers with which the body of an image's record begins
-abbrev pub head_of : Output (Unit {0}) → ℕ → List ℕ
+abbrev pub head_of : ImageId → ℕ → List ℕ
 head_of of number = drop (begin_of of) (numbers_of of number)

@@ -13,7 +13,7 @@ use sf_base::{NoMemory, Rect};
 use sf_compose::{
     Composition, Pixels, Region, View, compose, compose_by, dirty, painted_at_most, visible,
 };
-use sf_output::Output;
+use sf_output::ImageId;
 use std::alloc::Global;
 use std::marker::Model;
 use std::thread::Threads;
@@ -136,22 +136,22 @@ fn put_numbers(body: &mut [u8], output: u32, number: u32)
 }
 
 /// The number of a further display or of a capture, 0 for the frame of the scene's own display.
-fn output_of(of: &Output<()>) -> u32
-    ensures { result ≡ output_of of.now }
+fn output_of(of: ImageId) -> u32
+    ensures { result ≡ output_of of }
 {
     match of {
-        Output::Frame(_) => 0,
-        Output::Display(output, _) | Output::Capture(output, _) | Output::Hit(output, _) => *output,
+        ImageId::Frame => 0,
+        ImageId::Display(output) | ImageId::Capture(output) => output,
     }
 }
 
 /// At which byte the body of the record of an image begins.
-fn begin_of(of: &Output<()>) -> usize
-    ensures { result ≡ begin_of of.now }
+fn begin_of(of: ImageId) -> usize
+    ensures { result ≡ begin_of of }
 {
     match of {
-        Output::Frame(_) => NUMBER,
-        _ => 0,
+        ImageId::Frame => NUMBER,
+        ImageId::Display(_) | ImageId::Capture(_) => 0,
     }
 }
 
@@ -182,6 +182,20 @@ fn points_of(part: &Region) -> u64 {
         )));
     }
     points
+}
+
+/// At most so many points of layers are painted in a part of a view if of each layer only so much is as
+/// shows.
+fn shown_at_most(alloc: Global, view: &View, part: &Region) -> u64 {
+    let Ok(shows) = visible(alloc, view, part) else {
+        return 0;
+    };
+    let points = points_of(part);
+    let mut painted = 0u64;
+    for shown in &shows {
+        painted = painted.saturating_add(points_of(shown).min(points));
+    }
+    painted
 }
 
 impl Screen {
@@ -232,33 +246,35 @@ impl Screen {
     }
 
     /// At most so many points of layers are painted to show a view, where memory suffices to find
-    /// out.
+    /// out: where it differs from the last one, of each layer no more than shows.
     pub fn work(&self, view: &View) -> u64 {
-        let points = match &self.view {
+        match &self.view {
             Some(old) if is_composed_over(old, view) => match dirty(self.alloc, old, view) {
-                Ok(part) => points_of(&part),
+                Ok(part) => shown_at_most(self.alloc, view, &part),
                 Err(_) => 0,
             },
-            _ => u64::from(view.width).saturating_mul(u64::from(view.height)),
-        };
-        painted_at_most(view, points)
+            _ => {
+                let points = u64::from(view.width).saturating_mul(u64::from(view.height));
+                painted_at_most(view, points)
+            }
+        }
     }
 
-    /// Puts the numbers of this output, in the vsync of this number, in front of the frame of the view
+    /// Puts the numbers of this image, in the vsync of this number, in front of the frame of the view
     /// that was shown last.
-    pub fn number(&mut self, of: &Output<()>, number: u32)
+    pub fn number(&mut self, of: ImageId, number: u32)
         requires shows { is_some self.old.view ≡ true }
-        ensures { self.new ≡ record self.old { numbers = numbers_of of.now number } }
+        ensures { self.new ≡ record self.old { numbers = numbers_of of number } }
     {
         put_numbers(&mut self.body, output_of(of), number);
     }
 
-    /// The body of the record of this output, of which the view that was shown last is: the numbers
+    /// The body of the record of this image, of which the view that was shown last is: the numbers
     /// that were put in front, in four bytes each, highest first, for the frame of the scene's own
     /// display without the first of them; and the frame, row by row from the top.
-    pub fn body(&self, of: &Output<()>) -> &[u8]
+    pub fn body(&self, of: ImageId) -> &[u8]
         requires shows { is_some self.now.view ≡ true }
-        ensures { (number : ℕ) → self.now.numbers ≡ numbers_of of.now number → result.now ≡ head_of of.now number ++ self.now.frame }
+        ensures { (number : ℕ) → self.now.numbers ≡ numbers_of of number → result.now ≡ head_of of number ++ self.now.frame }
     {
         &self.body[begin_of(of)..]
     }

@@ -1,4 +1,4 @@
-//! The screens of all outputs of a run: one is taken out for each image of a vsync and put back
+//! The screens of all images of a run: one is taken out for each image of a vsync and put back
 //! once that is written.
 ghost use Rattle.std.specs.List.{position};
 ghost use Rattle.std.specs.Prelude.{◌≡◌};
@@ -7,38 +7,37 @@ ghost use Rattle.sf_output_screen.specs.ScreenLists.{is_of, is_same};
 use crate::screen::Screen;
 use sf_base::NoMemory;
 use sf_compose::View;
-use sf_output::Output;
+use sf_output::ImageId;
 use std::alloc::Global;
 use std::marker::Model;
 
-/// A screen, and the output that it shows.
+/// A screen, and the image that it shows.
 #[derive(Drop)]
 pub struct OutputScreen {
-    of: Output<()>,
+    of: ImageId,
     screen: Screen,
 }
 
-/// Whether two outputs are the same.
-fn is_same(one: &Output<()>, other: &Output<()>) -> bool
-    ensures { result ≡ is_same one.now other.now }
+/// Whether two images are the same.
+fn is_same(one: ImageId, other: ImageId) -> bool
+    ensures { result ≡ is_same one other }
 {
     match (one, other) {
-        (Output::Frame(_), Output::Frame(_)) => true,
-        (Output::Display(one, _), Output::Display(other, _)) => *one == *other,
-        (Output::Capture(one, _), Output::Capture(other, _)) => *one == *other,
-        (Output::Hit(one, _), Output::Hit(other, _)) => *one == *other,
+        (ImageId::Frame, ImageId::Frame) => true,
+        (ImageId::Display(one), ImageId::Display(other)) => one == other,
+        (ImageId::Capture(one), ImageId::Capture(other)) => one == other,
         _ => false,
     }
 }
 
-/// The index of the screen of an output, if it has one.
-fn index_of(screens: &[OutputScreen], of: &Output<()>) -> Option<usize>
-    ensures { result ≡ position (is_of of.now) screens.now }
+/// The index of the screen of an image, if it has one.
+fn index_of(screens: &[OutputScreen], of: ImageId) -> Option<usize>
+    ensures { result ≡ position (is_of of) screens.now }
 {
-    screens.iter().position(|one| is_same(&one.of, of))
+    screens.iter().position(|one| is_same(one.of, of))
 }
 
-/// The screens of several outputs, one for each that was shown. To be shown a screen is taken out, and
+/// The screens of several images, one for each that was shown. To be shown a screen is taken out, and
 /// put back.
 pub struct Screens {
     alloc: Global,
@@ -70,18 +69,18 @@ impl Screens {
         }
     }
 
-    /// At most so many points of layers are painted to show a view as this output, where memory
+    /// At most so many points of layers are painted to show a view as this image, where memory
     /// suffices to find out.
-    pub fn work(&self, of: &Output<()>, view: &View) -> u64 {
-        match self.list.iter().find(|one| is_same(&one.of, of)) {
+    pub fn work(&self, of: ImageId, view: &View) -> u64 {
+        match self.list.iter().find(|one| is_same(one.of, of)) {
             Some(one) => one.screen.work(view),
             None => Screen::new(self.alloc).work(view),
         }
     }
 
-    /// Takes the screen of an output out, or a new one where it has none. It takes no memory.
-    pub fn take(&mut self, of: &Output<()>) -> Screen
-        ensures own { result ≡ screen_of self.old of.now }
+    /// Takes the screen of an image out, or a new one where it has none. It takes no memory.
+    pub fn take(&mut self, of: ImageId) -> Screen
+        ensures own { result ≡ screen_of self.old of }
         ensures shown { (pictures : ℕ → Picture) → AreShown pictures self.old → IsShown pictures result }
         ensures others { (pictures : ℕ → Picture) → AreShown pictures self.old → AreShown pictures self.new }
     {
@@ -94,8 +93,8 @@ impl Screens {
         }
     }
 
-    /// Puts the screen of an output back. Where memory runs out it is gone.
-    pub fn put(&mut self, of: Output<()>, screen: Screen) -> Result<(), NoMemory>
+    /// Puts the screen of an image back. Where memory runs out it is gone.
+    pub fn put(&mut self, of: ImageId, screen: Screen) -> Result<(), NoMemory>
         ensures ok { OnOk result (self.new ≡ self.old ++ record { of = of; screen = screen } ∷ []) }
         ensures err { OnErr result (self.new ≡ self.old) }
     {

@@ -61,7 +61,7 @@ use Rattle.sf_play.proofs.VsyncKeepsPlayer.{arrived_is, arrivals_now, calls_same
 use Rattle.sf_play.proofs.LastHolds.{held_bare}
 use Rattle.sf_play.proofs.HandlerLeases.{IsOnLent, OfFrames}
 use Rattle.sf_play.specs.Alongs.{PlaysSo, PlaysTo, behind_round, state_so}
-use Rattle.sf_play.specs.Giving.{GivesFrame, GivesFrames}
+use Rattle.law_rights.specs.Standing.{GiveAll, GivesOne}
 use Rattle.sf_play.specs.Players.{PlayOf, SoFar, Stands, arrived_at, run_so, taken_at, written_so}
 use Rattle.sf_play.specs.Showing.{vsync_shown}
 use Rattle.sf_play.specs.Vsyncing.{MakesVsync}
@@ -87,7 +87,7 @@ module _ {B : Type 0} where
     handed true l back back_so = frames.plain back l back_so.0
     handed false l back back_so = ap plain_lease back_so
 
-    one_run : (on : OnLayer ReadLeaseOf) (release : ReleaseOf ReadLeaseOf) (old new : DeskView B) → IsReleaseOf lease on release → IsOnLent lent on → GivesFrame home number release old new
+    one_run : (on : OnLayer ReadLeaseOf) (release : ReleaseOf ReadLeaseOf) (old new : DeskView B) → IsReleaseOf lease on release → IsOnLent lent on → GivesOne home number release old new
         → run_of ofs home new ≡ with_call scene 0 number (run_of ofs home old) (release_asked (record { vsync = number; on = framed_on frame_of on }))
     one_run on release old new is shows one =
         let same = handed on.is_read on.lease release.lease is.handed in
@@ -98,7 +98,7 @@ module _ {B : Type 0} where
         own (plain_frame on.lease release.lease (sym same)) (sym is.fence) one.made
 
     gives_run : (gone : List (OnLayer ReadLeaseOf)) (releases : List (ReleaseOf ReadLeaseOf)) (old new : DeskView B) → AllZip (IsReleaseOf lease) gone releases → All (IsOnLent lent) gone
-        → GivesFrames home number releases old new
+        → GiveAll home number releases old new
         → run_of ofs home new ≡ with_calls scene 0 number (run_of ofs home old) (map release_asked (released_then number (map (framed_on frame_of) gone)))
     unfolding with_calls
     gives_run [] [] old new zip shows gives = ap (run_of ofs home) gives

@@ -32,41 +32,41 @@ use Rattle.sf_play_report.specs.law_played.Actors.{mark_declared}
 use Rattle.sf_play_report.specs.law_played.Framing.{framed_on}
 use Rattle.sf_play_report.specs.law_played.Histories.{Released}
 use Rattle.sf_play_report.specs.law_played.Telling.{TellRun}
-use Rattle.sf_play.specs.Giving.{GivesFrame, GivesFrames}
+use Rattle.law_rights.specs.Standing.{GiveAll, GivesOne}
 use Rattle.sf_play.proofs.HandlerLeases.{IsOnLent, OfFrames}
 
 module _ {B : Type 0} where
   -- one frame more goes back
-  pub gives_more : (home : DeskHome) (number : ℕ) (releases : List (ReleaseOf ReadLeaseOf)) (release : ReleaseOf ReadLeaseOf) (old mid new : DeskView B) → GivesFrames home number releases old mid
-      → GivesFrame home number release mid new → GivesFrames home number (releases ++ release ∷ []) old new
-  gives_more home number [] release old mid new gives one = (new, subst (λ (v : DeskView B). GivesFrame home number release v new) gives one, refl)
+  pub gives_more : (home : DeskHome) (number : ℕ) (releases : List (ReleaseOf ReadLeaseOf)) (release : ReleaseOf ReadLeaseOf) (old mid new : DeskView B) → GiveAll home number releases old mid
+      → GivesOne home number release mid new → GiveAll home number (releases ++ release ∷ []) old new
+  gives_more home number [] release old mid new gives one = (new, subst (λ (v : DeskView B). GivesOne home number release v new) gives one, refl)
   gives_more home number (first ∷ later) release old mid new gives one = (gives.0, gives.1, gives_more home number later release gives.0 mid new gives.2 one)
 
   module _ (home : DeskHome) (exact : home.is_exact ≡ true) (number : ℕ) where
     -- the calls on a queue, where one frame went back
-    given_here : (release : ReleaseOf ReadLeaseOf) (old new : DeskView B) (one : GivesFrame home number release old new) (queue : ℕ) → (queue == release.queue.0) ≡ true
+    given_here : (release : ReleaseOf ReadLeaseOf) (old new : DeskView B) (one : GivesOne home number release old new) (queue : ℕ) → (queue == release.queue.0) ≡ true
         → new.calls queue ≡ entry 0 (number, call.Release release.lease release.fence) one.reply ∷ old.calls queue
     given_here release old new one queue met =
         let same = eqb-true queue release.queue.0 met in
         subst (λ (q : ℕ). new.calls q ≡ entry 0 (number, call.Release release.lease release.fence) one.reply ∷ old.calls q) (sym same)
         (one.made.newest ∙ ap (λ (cs : List (Made B)). entry 0 (number, call.Release release.lease release.fence) one.reply ∷ cs) (one.made.alone exact))
 
-    given_else : (release : ReleaseOf ReadLeaseOf) (old new : DeskView B) → GivesFrame home number release old new → (queue : ℕ) → (queue == release.queue.0) ≡ false → new.calls queue ≡ old.calls queue
+    given_else : (release : ReleaseOf ReadLeaseOf) (old new : DeskView B) → GivesOne home number release old new → (queue : ℕ) → (queue == release.queue.0) ≡ false → new.calls queue ≡ old.calls queue
     given_else release old new one queue unmet = one.made.changes.others queue (λ same. false≢true (sym unmet ∙ eq-eqb queue release.queue.0 same))
 
     -- calls are only added
-    one_grows : (release : ReleaseOf ReadLeaseOf) (old new : DeskView B) → GivesFrame home number release old new → (queue : ℕ) (made : Made B) → Contains (old.calls queue) made → Contains (new.calls queue) made
+    one_grows : (release : ReleaseOf ReadLeaseOf) (old new : DeskView B) → GivesOne home number release old new → (queue : ℕ) (made : Made B) → Contains (old.calls queue) made → Contains (new.calls queue) made
     one_grows release old new one queue made there = elim (cases_Bool (queue == release.queue.0)) [
       | inl met ↦ subst (λ (cs : List (Made B)). Contains cs made) (sym (given_here release old new one queue met)) (has_later _ made (old.calls queue) there)
       | inr unmet ↦ subst (λ (cs : List (Made B)). Contains cs made) (sym (given_else release old new one queue unmet)) there
     ]
 
-    pub gives_grow : (releases : List (ReleaseOf ReadLeaseOf)) (old new : DeskView B) → GivesFrames home number releases old new → (queue : ℕ) (made : Made B) → Contains (old.calls queue) made → Contains (new.calls queue) made
+    pub gives_grow : (releases : List (ReleaseOf ReadLeaseOf)) (old new : DeskView B) → GiveAll home number releases old new → (queue : ℕ) (made : Made B) → Contains (old.calls queue) made → Contains (new.calls queue) made
     gives_grow [] old new gives queue made there = subst (λ (v : DeskView B). Contains (v.calls queue) made) (sym gives) there
     gives_grow (release ∷ later) old new gives queue made there = gives_grow later gives.0 new gives.2 queue made (one_grows release old gives.0 gives.1 queue made there)
 
     -- nothing else is learnt
-    pub gives_same : (releases : List (ReleaseOf ReadLeaseOf)) (old new : DeskView B) → GivesFrames home number releases old new → new ≡ record old { calls = new.calls; locked = new.locked }
+    pub gives_same : (releases : List (ReleaseOf ReadLeaseOf)) (old new : DeskView B) → GiveAll home number releases old new → new ≡ record old { calls = new.calls; locked = new.locked }
     gives_same [] old new gives = ap (λ (v : DeskView B). record v { calls = new.calls; locked = new.locked }) gives
     gives_same (release ∷ later) old new gives =
         gives_same later gives.0 new gives.2 ∙ ap (λ (v : DeskView B). record v { calls = new.calls; locked = new.locked }) gives.1.made.changes.same
@@ -78,7 +78,7 @@ module _ {B : Type 0} where
       handed_plain true l back handed = frames.plain back l handed.0
       handed_plain false l back handed = ap plain_lease handed
 
-      one_told : (on : OnLayer ReadLeaseOf) (release : ReleaseOf ReadLeaseOf) (old new : DeskView B) (released : List Released) → IsReleaseOf lease on release → IsOnLent lent on → GivesFrame home number release old new
+      one_told : (on : OnLayer ReadLeaseOf) (release : ReleaseOf ReadLeaseOf) (old new : DeskView B) (released : List Released) → IsReleaseOf lease on release → IsOnLent lent on → GivesOne home number release old new
           → TellRun scene ofs home old events released → TellRun scene ofs home new events (released ++ record { vsync = number; on = framed_on frame_of on } ∷ [])
       one_told on release old new released is shows one tell =
           let same = handed_plain on.is_read on.lease release.lease is.handed in
@@ -88,7 +88,7 @@ module _ {B : Type 0} where
 
       -- the frames that go back are told as released
       pub gives_told : (gone : List (OnLayer ReadLeaseOf)) (releases : List (ReleaseOf ReadLeaseOf)) (old new : DeskView B) (released : List Released) → AllZip (IsReleaseOf lease) gone releases → All (IsOnLent lent) gone
-          → GivesFrames home number releases old new → TellRun scene ofs home old events released
+          → GiveAll home number releases old new → TellRun scene ofs home old events released
           → TellRun scene ofs home new events (released ++ map (λ (on : OnLayer FrameOf). record { vsync = number; on = on }) (map (framed_on frame_of) gone))
       gives_told [] [] old new released are shows gives tell = subst (λ (rs : List Released). TellRun scene ofs home new events rs) (sym (append-nil released)) (subst (λ (v : DeskView B). TellRun scene ofs home v events released) (sym gives) tell)
       gives_told [] (release ∷ later) old new released are shows gives tell = absurd are

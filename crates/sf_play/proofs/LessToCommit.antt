@@ -17,7 +17,7 @@ use Rattle.law_rights.specs.sf_actor_set.ActorSets.{ActorSetOf}
 use Rattle.law_rights.proofs.sf_actor_set_lemmas.ArrivalLemmas.{sent_is}
 use Rattle.sf_play_report.specs.law_played.Progress.{is_time}
 use Rattle.sf_play.specs.Fuel.{now_in, steps_left, to_commit, untaken, work_left}
-use Rattle.sf_play.specs.Giving.{GivesFrames}
+use Rattle.law_rights.specs.Standing.{GiveAll}
 use Rattle.sf_play.specs.Players.{PlayOf, home_in, view_in}
 use Rattle.sf_play.specs.Vsyncing.{MakesVsync}
 use Rattle.sf_play.proofs.ActionFuel.{same_rest}
@@ -44,7 +44,7 @@ next_time vsyncs period = grind arith
 
 module _ {B : Type 0} where
   -- frames that go back are no arrivals
-  gives_none : (home : DeskHome) (number : ℕ) (releases : List (ReleaseOf ReadLeaseOf)) (old new : DeskView B) → GivesFrames home number releases old new → new.arrivals ≡ old.arrivals
+  gives_none : (home : DeskHome) (number : ℕ) (releases : List (ReleaseOf ReadLeaseOf)) (old new : DeskView B) → GiveAll home number releases old new → new.arrivals ≡ old.arrivals
   gives_none home number [] old new gives = ap (λ (v : DeskView B). v.arrivals) gives
   gives_none home number (release ∷ later) old new gives =
       gives_none home number later gives.0 new gives.2 ∙ ap (λ (v : DeskView B). v.arrivals) gives.1.made.changes.same

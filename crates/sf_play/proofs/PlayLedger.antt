@@ -50,7 +50,6 @@ use Rattle.law_rights.proofs.VsyncLedger.{vsync_stands}
 use Rattle.law_rights.proofs.PermitStock.{stands_look}
 use Rattle.sf_play.proofs.VsyncKeepsPlayer.{arrived_is, calls_same, came, gives_now, home_now, sent_same, taken_all}
 use Rattle.sf_play.proofs.HandlerLeases.{IsArrivedLent, OfFrames, looked_all}
-use Rattle.sf_play.specs.Giving.{GivesFrames}
 use Rattle.sf_play.specs.Players.{IsBufferLent, PlayOf, SoFar, Stands, WasLent, home_in, view_in, written_so}
 use Rattle.sf_play.specs.Vsyncing.{MakesVsync}
 
@@ -107,11 +106,6 @@ module _ {B : Type 0} where
     plain = was.plain;
     number = was.number;
   }
-
-  -- frames that a play gives back are those of its ledger
-  gives_all : (home : DeskHome) (number : ℕ) (releases : List (ReleaseOf ReadLeaseOf)) (old new : DeskView B) → GivesFrames home number releases old new → GiveAll home number releases old new
-  gives_all home number [] old new gives = gives
-  gives_all home number (release ∷ later) old new gives = (gives.0, record { reply = gives.1.reply; made = gives.1.made }, gives_all home number later gives.0 new gives.2)
 
 -- what the ghosts of a lease tell of turns that are all known, of where it is, and of what it expects
 pub record TellsAll (lease : Ghosts ReadLeaseOf SeatView ReadLeaseOf Issued) : Type 0 where
@@ -188,9 +182,8 @@ module _ {B : Type 0} (lease : Ghosts ReadLeaseOf SeatView ReadLeaseOf Issued) (
     arrivals = sent_same lease frames table scene so old new seen told stands v;
     decides = subst (λ (eye : SeatView). Decides lease old.handler eye v.arrived seen ((old.vsyncs + 1) * old.period) told new.handler v.decided.desk.turns) turns_same v.decides;
     number = old.vsyncs + 1;
-    gives = gives_all (home_taken (home_of before) (view_of before)) (old.vsyncs + 1) told.releases (view_of v.decided.desk) (view_of new.actor_set.desk)
-        (subst (λ (n : ℕ). GivesFrames (record (home_of before) { taken = n }) (old.vsyncs + 1) told.releases (view_of v.decided.desk) (view_of new.actor_set.desk)) (taken_all lease frames table scene so old new seen told stands v)
-        (gives_now lease frames table scene so old new seen told stands v));
+    gives = subst (λ (n : ℕ). GiveAll (record (home_of before) { taken = n }) (old.vsyncs + 1) told.releases (view_of v.decided.desk) (view_of new.actor_set.desk)) (taken_all lease frames table scene so old new seen told stands v)
+        (gives_now lease frames table scene so old new seen told stands v);
     not_called = λ queue none. none_absent new.actor_set.desk.queues queue
         (subst (λ (h : DeskHome). has_queue h queue ≡ false) (sym home_then) none);
   }

@@ -42,7 +42,7 @@ use Rattle.sf_play.proofs.PlayEnd.{calls_stand, held_at_end}
 use Rattle.sf_play.proofs.HandlerLeases.{OfFrames}
 use Rattle.sf_play.proofs.PlayLedger.{IsLegalDesk}
 use Rattle.sf_play.specs.Ending.{IsAtEnd, LooksTell, Rests, RestsAt, has_shown}
-use Rattle.sf_play.specs.Giving.{GivesFrames}
+use Rattle.law_rights.specs.Standing.{GiveAll}
 use Rattle.sf_play.specs.Places.{behind, settled, settled_at}
 use Rattle.sf_play_report.specs.Reports.{has_commits}
 use Rattle.sf_play.specs.Players.{PlayOf, PlayerOf, SoFar, Stands, home_in, run_so, taken_at, told_at, view_in, written_so}
@@ -125,7 +125,7 @@ module _ {B : Type 0} where
         releases_nothing lease frame_of (λ a b same. plain_frame a b (frames.plain a b same)) scene (written_so scene so old.play) (taken_at old.play) (vsyncs_in so.events) old.play.handler new.play.handler
         v.took.desk.turns v.decided.desk.turns v.arrived seen ((old.play.vsyncs + 1) * old.play.period) told stands.vsyncs.played v.decides (arrived_rises table scene so old.play stands v.arrived arrived_is) none in
         let gives : view_in new.play ≡ view_of v.decided.desk =
-        subst (λ (rs : List (ReleaseOf ReadLeaseOf)). GivesFrames (home_of v.decided.desk) (old.play.vsyncs + 1) rs (view_of v.decided.desk) (view_in new.play)) no_releases v.gives in
+        subst (λ (rs : List (ReleaseOf ReadLeaseOf)). GiveAll (home_of v.decided.desk) (old.play.vsyncs + 1) rs (view_of v.decided.desk) (view_in new.play)) no_releases v.gives in
         let home = home_now lease frames table scene so old.play new.play seen told stands v in
         let calls : (view_in new.play).calls ≡ (view_in old.play).calls = ap (λ (w : DeskView B). w.calls) gives ∙ calls_same lease frames table scene so old.play new.play seen told stands v in
         let same = run_stays so.actors (home_in old.play) (home_in new.play) (view_in old.play) (view_in new.play) (ap (λ (h : DeskHome). h.marks) home) (λ queue. ap (λ (cs : ℕ → List (Made B)). cs queue) calls) in

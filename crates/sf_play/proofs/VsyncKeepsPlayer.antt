@@ -52,7 +52,7 @@ use Rattle.sf_play.proofs.ArrivedFrames.{arrivals_lent}
 use Rattle.sf_play.proofs.HandlerLeases.{IsArrivedLent, IsOnLent, OfFrames, arrived_lent_on, gone_lent, on_lent_on, stays_lent, waits_lent}
 use Rattle.sf_play.proofs.CompositorReleases.{gives_grow, gives_same, gives_told}
 use Rattle.sf_play.proofs.SeenTimelines.{SeesSignals, saw_is, sees_signals, vsyncs_more}
-use Rattle.sf_play.specs.Giving.{GivesFrames}
+use Rattle.law_rights.specs.Standing.{GiveAll}
 use Rattle.sf_play.specs.Players.{DeskStands, IsOfScene, LeasesStand, PlayOf, SoFar, Stands, arrived_at, signals_so, taken_at, told_at, written_so}
 use Rattle.sf_play.specs.Showing.{vsync_shown}
 use Rattle.sf_play.specs.Vsyncing.{MakesVsync}
@@ -192,8 +192,8 @@ module _ {B : Type 0} where
     pub goes : All (IsOnLent lent) gone
     goes = gone_lent lease frames lent old.handler new.handler v.took.desk.turns middle.turns v.arrived seen (number * old.period) told v.decides stands.leases.pending came stands.leases.on
 
-    pub gives_now : GivesFrames home number told.releases (view_of middle) (view_of after)
-    gives_now = subst (λ (h : DeskHome). GivesFrames h number told.releases (view_of middle) (view_of after)) part.home v.gives
+    pub gives_now : GiveAll home number told.releases (view_of middle) (view_of after)
+    gives_now = subst (λ (h : DeskHome). GiveAll h number told.releases (view_of middle) (view_of after)) part.home v.gives
 
     grows : (queue : ℕ) (made : Made B) → Contains (lent.calls queue) made → Contains ((view_of after).calls queue) made
     grows queue made there = gives_grow home refl number told.releases (view_of middle) (view_of after) gives_now queue made (subst (λ (cs : ℕ → List (Made B)). Contains (cs queue) made) (sym calls_same) there)

@@ -28,7 +28,7 @@ use Rattle.sf_play_report.specs.sf_actor.Plain.{PlainOf, calls_among, home_of, t
 use Rattle.law_rights.specs.sf_actor_set.ActorSets.{ActorSetOf}
 use Rattle.law_rights.specs.sf_actor_set.Compositing.{OnlyDesk, Takes}
 use Rattle.sf_play_report.proofs.law_played_lemmas.Members.{has_none}
-use Rattle.sf_play.specs.Giving.{GivesFrames}
+use Rattle.law_rights.specs.Standing.{GiveAll}
 use Rattle.sf_play.specs.Players.{PlayOf, SoFar, Stands}
 use Rattle.sf_play.proofs.VsyncKeepsPlayer.{arrived_lent, arrived_rises, only_twice}
 use Rattle.sf_play.proofs.HandlerLeases.{IsOnLent, OfFrames, gone_lent}
@@ -41,7 +41,7 @@ map_same (x ∷ xs) = ap (λ ys. x ∷ ys) (map_same xs)
 module _ {B : Type 0} where
   -- frames that went back so far
   pub record IsGiving (table : TableId) (number : ℕ) (releases : List (ReleaseOf ReadLeaseOf)) (old now : ActorSetOf B) : Type 0 where
-    pub gives : GivesFrames (home_of old.desk) number releases (view_of old.desk) (view_of now.desk)
+    pub gives : GiveAll (home_of old.desk) number releases (view_of old.desk) (view_of now.desk)
     pub only : OnlyDesk table (taken_in old.desk.arrivals) old now
 
   pub giving_none : (table : TableId) (number : ℕ) (actor_set : ActorSetOf B) → IsGiving table number [] actor_set actor_set

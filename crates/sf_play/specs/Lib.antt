@@ -1,7 +1,6 @@
 pub mod Alongs
 pub mod Ending
 pub mod Fuel
-pub mod Giving
 pub mod Going
 pub mod Happening
 pub mod LateReplies

@@ -12,7 +12,7 @@ use Rattle.sf_play_report.specs.sf_actor.Plain.{home_of, taken_in, view_of}
 use Rattle.sf_play_report.specs.sf_actor.Tries.{Sees}
 use Rattle.law_rights.specs.sf_actor_set.ActorSets.{ActorSetOf}
 use Rattle.law_rights.specs.sf_actor_set.Compositing.{OnlyDesk, Takes}
-use Rattle.sf_play.specs.Giving.{GivesFrames}
+use Rattle.law_rights.specs.Standing.{GiveAll}
 use Rattle.sf_play.specs.Players.{PlayOf}
 
 -- It looks at the timelines, takes what arrived, decides, and gives back the frames that go. Each part changes the desk alone.
@@ -31,6 +31,6 @@ module _ {B : Type 0} {R C : Type 0} (lease : Ghosts ReadLeaseOf SeatView R C) w
     pub decides : Decides lease old.handler took.desk.turns arrived seen ((old.vsyncs + 1) * old.period) told new.handler decided.desk.turns
     pub turns : decided.desk ≡ record took.desk { turns = decided.desk.turns }
     pub only_decides : OnlyDesk table (taken_in took.desk.arrivals) took decided
-    pub gives : GivesFrames (home_of decided.desk) (old.vsyncs + 1) told.releases (view_of decided.desk) (view_of new.actor_set.desk)
+    pub gives : GiveAll (home_of decided.desk) (old.vsyncs + 1) told.releases (view_of decided.desk) (view_of new.actor_set.desk)
     pub only_gives : OnlyDesk table (taken_in decided.desk.arrivals) decided new.actor_set
     pub rest : new ≡ record old { actor_set = new.actor_set; handler = new.handler; vsyncs = old.vsyncs + 1 }

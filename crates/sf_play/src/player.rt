@@ -9,7 +9,7 @@ ghost use Rattle.law_rights.specs.sf_actor_set.Scripts.{permits_of};
 ghost use Rattle.sf_play_report.specs.sf_commit.Releases.{ReleaseOf};
 ghost use Rattle.sf_play_report.specs.sf_surface.Tokens.{ReadLeaseOf};
 ghost use Rattle.sf_play_report.specs.sf_turns.Counts.{range};
-ghost use Rattle.sf_play.specs.Giving.{GivesFrames};
+ghost use Rattle.law_rights.specs.Standing.{GiveAll};
 ghost use Rattle.sf_play.specs.Playing.{KeepsItself, MakesReport, MayMakeVsync, expected_by};
 ghost use Rattle.sf_play.specs.Players.{before_round};
 ghost use Rattle.sf_play.specs.Standing.{Begins, IsStanding};
@@ -69,7 +69,7 @@ fn release_all<B: TableName>(
     releases: Vec<Release<ReadLease<B>>>,
 ) -> Result<(), NoMemory>
     requires there { All (λ (release : ReleaseOf ReadLeaseOf). has_queue (home_of actor_set.old.desk) release.queue.0 ≡ true) releases.items }
-    ensures gives { OnOk result (GivesFrames (home_of actor_set.old.desk) number releases.items (view_of actor_set.old.desk) (view_of actor_set.new.desk)) }
+    ensures gives { OnOk result (GiveAll (home_of actor_set.old.desk) number releases.items (view_of actor_set.old.desk) (view_of actor_set.new.desk)) }
     ensures only { OnOk result (OnlyDesk B.table (taken_in actor_set.old.desk.arrivals) actor_set.old actor_set.new) }
 {
     for release in releases {

@@ -15,6 +15,7 @@ use Rattle.law_played.specs.sf_compose.Sources.{HasSource}
 use Rattle.law_played.specs.sf_layer.declared.layer.Layer.{Layer}
 use Rattle.law_played.specs.sf_layer.declared.shown.Shown.{Shown}
 use Rattle.law_played.specs.sf_output.Outputs.{IsOutput, OfImage}
+use Rattle.law_played.specs.sf_output.declared.image.ImageId.TheVariants as id
 use Rattle.law_played.specs.sf_output.declared.output.Output.{Output}
 use Rattle.law_played.specs.sf_output.declared.output.Output.TheVariants as out
 use Rattle.law_played.specs.sf_picture.declared.picture.Picture.{Picture}
@@ -47,9 +48,7 @@ if_both P R Q (Err e) f p s = tt
 -- what is known of an output and of one that fits it
 of_image : {A B : Type 0} (P : A → Type 0) (R : A → B → Type 0) (Q : B → Type 0) → ((a : A) (b : B) → P a → R a b → Q b)
     → (x : Output A) (y : Output B) → OfImage P x → IsOutput R x y → OfImage Q y
-of_image P R Q f (out.Frame a) (out.Frame b) p r = f a b p r
-of_image P R Q f (out.Display n a) (out.Display m b) p r = f a b p r.1
-of_image P R Q f (out.Capture n a) (out.Capture m b) p r = f a b p r.1
+of_image P R Q f (out.Image a) (out.Image b) p r = f a.shows b.shows p r.1
 of_image P R Q f (out.Hit n l) (out.Hit m k) p r = tt
 of_image P R Q f _ _ p r = absurd r
 
@@ -64,12 +63,8 @@ of_images P R Q f (x ∷ xs) (y ∷ ys) all zip =
 -- one output that fits another, which fits a third one
 then_output : {A B C : Type 0} (R : A → B → Type 0) (S : B → C → Type 0) (T : A → C → Type 0) → ((a : A) (b : B) (c : C) → R a b → S b c → T a c)
     → (x : Output A) (y : Output B) (z : Output C) → IsOutput R x y → IsOutput S y z → IsOutput T x z
-then_output R S T f (out.Frame a) (out.Frame b) (out.Frame c) r s = f a b c r s
-then_output R S T f (out.Frame a) (out.Frame b) _ r s = absurd s
-then_output R S T f (out.Display n a) (out.Display m b) (out.Display k c) r s = (r.0 ∙ s.0, f a b c r.1 s.1)
-then_output R S T f (out.Display n a) (out.Display m b) _ r s = absurd s
-then_output R S T f (out.Capture n a) (out.Capture m b) (out.Capture k c) r s = (r.0 ∙ s.0, f a b c r.1 s.1)
-then_output R S T f (out.Capture n a) (out.Capture m b) _ r s = absurd s
+then_output R S T f (out.Image a) (out.Image b) (out.Image c) r s = (r.0 ∙ s.0, f a.shows b.shows c.shows r.1 s.1)
+then_output R S T f (out.Image a) (out.Image b) _ r s = absurd s
 then_output R S T f (out.Hit n a) (out.Hit m b) (out.Hit k c) r s = (r.0 ∙ s.0, r.1 ∙ s.1)
 then_output R S T f (out.Hit n a) (out.Hit m b) _ r s = absurd s
 then_output R S T f _ _ _ r s = absurd r
@@ -101,6 +96,10 @@ own_due plan tree view none no_mirrors views =
     subst (λ (mirrors : List (ℕ × ℕ)). ShowsDue (frame_due plan (written tree mirrors)) view) (sym no_mirrors)
     (subst (λ (stacks : List (ℕ × ℕ)). ViewsInOrder tree (order_on tree stacks 0) plan.width plan.height view) (sym none)
     (subst (λ (order : List LayerId). ViewsInOrder tree order plan.width plan.height view) (sym (no_stacks tree)) views))
+
+-- the frame of the scene's own display
+abbrev pub own_frame : SourcedView → Output SourcedView
+own_frame sourced = out.Image (record { of = id.Frame; shows = sourced })
 
 module _ {L : Type 0} (on : List (OnLayer L)) where
   -- what a layer shows of an image that is due stands for a layer of the tree
@@ -166,19 +165,17 @@ module _ {L : Type 0} (on : List (OnLayer L)) where
 
   -- the frame first, and all others behind it
   pub all_made : (plan : Plan) (tree : List Layer) (frame : SourcedView) (others : List (Output ViewOf)) (made all : List (Output SourcedView)) → IsSourcedDue on (frame_due plan (written tree plan.mirrors)) frame
-      → AllZip (IsOutput ShowsDue) (others_due plan tree) others → AllZip (IsOutput (IsSourcedBy on)) others made → all ≡ out.Frame frame ∷ made
+      → AllZip (IsOutput ShowsDue) (others_due plan tree) others → AllZip (IsOutput (IsSourcedBy on)) others made → all ≡ own_frame frame ∷ made
       → AllZip (IsOutput (IsSourcedDue on)) (outputs_due plan tree) all
   all_made plan tree frame others made all by shown sourced is =
-      subst (AllZip (IsOutput (IsSourcedDue on)) (outputs_due plan tree)) (sym is) (by, made_others (others_due plan tree) others made shown sourced)
+      subst (AllZip (IsOutput (IsSourcedDue on)) (outputs_due plan tree)) (sym is) ((refl, by), made_others (others_due plan tree) others made shown sourced)
 
   pub dues_of : (dues : List (Output ImageDue)) (made : List (Output SourcedView)) → AllZip (IsOutput (IsSourcedDue on)) dues made
       → AllZip (IsOutput (λ (due : ImageDue) (sourced : SourcedView). ShowsDue due sourced.view)) dues made
   dues_of dues made is = zip_weaker (IsOutput (IsSourcedDue on)) (IsOutput (λ (due : ImageDue) (sourced : SourcedView). ShowsDue due sourced.view)) each dues made is
     where
       each : (a : Output ImageDue) (b : Output SourcedView) → IsOutput (IsSourcedDue on) a b → IsOutput (λ (due : ImageDue) (sourced : SourcedView). ShowsDue due sourced.view) a b
-      each (out.Frame a) (out.Frame b) is = is.shows
-      each (out.Display n a) (out.Display m b) is = (is.0, is.1.shows)
-      each (out.Capture n a) (out.Capture m b) is = (is.0, is.1.shows)
+      each (out.Image a) (out.Image b) is = (is.0, is.1.shows)
       each (out.Hit n a) (out.Hit m b) is = is
       each _ _ is = absurd is
 
@@ -216,9 +213,7 @@ module _ {L : Type 0} (on : List (OnLayer L)) where
         all_unit xs = λ k d below. unit_of (get_or xs k d)
           where
             unit_of : (x : Output ImageDue) → OfImage (λ (due : ImageDue). Unit {0}) x
-            unit_of (out.Frame a) = tt
-            unit_of (out.Display n a) = tt
-            unit_of (out.Capture n a) = tt
+            unit_of (out.Image a) = tt
             unit_of (out.Hit n a) = tt
 
     module _ (pictures : ℕ → Picture) (expected : All (λ (one : OnLayer L). expects one ≡ pictures one.shown.picture) on) where
@@ -247,7 +242,5 @@ module _ {L : Type 0} (on : List (OnLayer L)) where
           all_unit xs = λ k d below. unit_of (get_or xs k d)
             where
               unit_of : (x : Output ImageDue) → OfImage (λ (due : ImageDue). Unit {0}) x
-              unit_of (out.Frame a) = tt
-              unit_of (out.Display n a) = tt
-              unit_of (out.Capture n a) = tt
+              unit_of (out.Image a) = tt
               unit_of (out.Hit n a) = tt

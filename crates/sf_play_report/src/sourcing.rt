@@ -12,7 +12,9 @@ ghost use Rattle.sf_play_report.specs.Stages.{AllFindPictures, AllShowOn, AreExp
 ghost use Rattle.law_played.specs.sf_view.declared.drawn.Drawn.{Drawn as DrawnOf};
 
 use crate::sourced::SourcedView;
-use law_played::{Content, Drawn, Handler, Lease, Output, Plan, View, ViewsDue, views_due};
+use law_played::{
+    Content, Drawn, Handler, Image, ImageId, Lease, Output, Plan, View, ViewsDue, views_due,
+};
 use sf_base::{Items, NoMemory};
 use sf_view::view_of;
 use std::alloc::Global;
@@ -115,9 +117,10 @@ where
     ensures { IfOk result (IsOutput (IsSourcedBy handler.now.on) output) }
 {
     Ok(match output {
-        Output::Frame(view) => Output::Frame(sourced(alloc, handler, view)?),
-        Output::Display(number, view) => Output::Display(number, sourced(alloc, handler, view)?),
-        Output::Capture(number, view) => Output::Capture(number, sourced(alloc, handler, view)?),
+        Output::Image(Image { of, shows }) => Output::Image(Image {
+            of,
+            shows: sourced(alloc, handler, shows)?,
+        }),
         Output::Hit(number, layer) => Output::Hit(number, layer),
     })
 }
@@ -159,7 +162,10 @@ where
     let ViewsDue { frame, others } = views_due(alloc, plan, tree)?;
     let frame = own_sourced(alloc, plan, handler, frame)?;
     let mut views = Vec::new(alloc);
-    views.push(Output::Frame(frame))?;
+    views.push(Output::Image(Image {
+        of: ImageId::Frame,
+        shows: frame,
+    }))?;
     let mut others = sourced_outputs(alloc, handler, others)?;
     views.append(&mut others)?;
     Ok(views)

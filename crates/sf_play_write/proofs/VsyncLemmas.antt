@@ -12,12 +12,14 @@ use Rattle.sf_output_screen.specs.sf_compose.Again.{ShowsView}
 use Rattle.sf_output_screen.specs.sf_compose.Frames.{frame_bytes}
 use Rattle.sf_output_screen.specs.sf_layer.declared.layer.Layer.{Layer}
 use Rattle.sf_output.specs.Outputs.{IsOutput, OfImage, map_output}
+use Rattle.sf_output.specs.declared.image.ImageId.{ImageId}
+use Rattle.sf_output.specs.declared.image.ImageId.TheVariants as id
 use Rattle.sf_output.specs.declared.output.Output.{Output}
 use Rattle.sf_output.specs.declared.output.Output.TheVariants as out
 use Rattle.sf_output_screen.specs.sf_picture.declared.picture.Picture.{Picture}
 use Rattle.sf_play.specs.sf_output_plan.Due.{ImageDue, outputs_due}
 use Rattle.sf_play.specs.sf_output_plan.declared.plan.Plan.{Plan}
-use Rattle.sf_play.specs.sf_record.Events.{output_record, vsync_records}
+use Rattle.sf_play.specs.sf_record.Events.{image_record, output_record, vsync_records}
 use Rattle.sf_play.specs.sf_record.Records.{BeginsImage, u32_bytes}
 use Rattle.sf_play.specs.sf_record.Records.{image_in as record_in}
 use Rattle.sf_play.specs.sf_record.declared.encode.RunFault.{RunFault}
@@ -33,14 +35,14 @@ use Rattle.sf_play.specs.law_played.Frames.{frame_of, shown_due}
 use Rattle.sf_play.specs.law_played.Seeing.{value_shown}
 use Rattle.sf_output_screen.specs.ScreenLists.{AreShown}
 use Rattle.sf_output_screen.specs.declared.screens.OutputScreen.{OutputScreen}
-use Rattle.sf_output_screen.specs.Screens.{IsShown, IsWhole, ScreenOf, head_of, image_bytes, is_image}
+use Rattle.sf_output_screen.specs.Screens.{IsShown, IsWhole, ScreenOf, head_of, image_bytes}
 use Rattle.sf_output_screen.proofs.ScreenLemmas.{shown_bytes}
 use Rattle.sf_output_screen.proofs.sf_view_lemmas.ImageLemmas.{view_image-order}
 use Rattle.sf_output_screen.specs.sf_view.Image.{image_in}
 use Rattle.sf_output_screen.specs.sf_view.Stacks.{view_image}
 use Rattle.sf_output_screen.specs.sf_view.Views.{ViewOf}
 use Rattle.sf_play_write.proofs.WritingLemmas.{part_front, part_more, part_none, part_whole, writes_more}
-use Rattle.sf_play_write.specs.Vsyncs.{AreComposed, AreOutputsDue, AreSameOutputs, AreViewsDue, CutsVsync, IsComposed, IsViewDue, WritesVsync, image_record, pixels_in, pixels_of, records_by, records_if, shown_record, told_by, vsync_shown, without_image}
+use Rattle.sf_play_write.specs.Vsyncs.{AreComposed, AreOutputsDue, AreSameOutputs, AreViewsDue, CutsVsync, IsComposed, IsViewDue, WritesVsync, pixels_in, pixels_of, records_by, records_if, shown_record, told_by, vsync_shown, without_image}
 use Rattle.sf_play_write.specs.Writing.{Writes, WritesPart}
 
 pub with_more : (A B : Type 0) (r : Result (Unit {0}) RunFault) → OnOk r A → B → OnOk r (A × B)
@@ -60,24 +62,22 @@ still_shown pictures before after view frame shown = subst (λ (s : Option ViewO
 frame_head : (number : ℕ) → drop 4 (big_bytes 4 0 ++ big_bytes 4 number) ≡ big_bytes 4 number
 frame_head number = drop_at (big_bytes 4 0) (big_bytes 4 number) 4 refl
 
-pub image_begins : (of : Output (Unit {0})) (number : ℕ) (body frame : List ℕ) → is_image of ≡ true → body ≡ head_of of number ++ frame → BeginsImage of number body
+pub image_begins : (of : ImageId) (number : ℕ) (body frame : List ℕ) → body ≡ head_of of number ++ frame → BeginsImage of number body
 unfolding u32_bytes
-image_begins (out.Frame u) number body frame image is =
+image_begins id.Frame number body frame is =
     ap (take 4) (is ∙ ap (λ (head : List ℕ). head ++ frame) (frame_head number)) ∙ take_at (big_bytes 4 number) frame 4 refl
-image_begins (out.Display output u) number body frame image is = ap (take 8) is ∙ take_at (big_bytes 4 output ++ big_bytes 4 number) frame 8 refl
-image_begins (out.Capture output u) number body frame image is = ap (take 8) is ∙ take_at (big_bytes 4 output ++ big_bytes 4 number) frame 8 refl
-image_begins (out.Hit output layer) number body frame image is = absurd (false≢true image)
+image_begins (id.Display output) number body frame is = ap (take 8) is ∙ take_at (big_bytes 4 output ++ big_bytes 4 number) frame 8 refl
+image_begins (id.Capture output) number body frame is = ap (take 8) is ∙ take_at (big_bytes 4 output ++ big_bytes 4 number) frame 8 refl
 
 -- the record of an image by its body
-pub image_is : (of : Output (Unit {0})) (number : ℕ) (body frame : List ℕ) → is_image of ≡ true → body ≡ head_of of number ++ frame → record_in of number body ≡ image_record of number frame
-image_is (out.Frame u) number body frame image is =
+pub image_is : (of : ImageId) (number : ℕ) (body frame : List ℕ) → body ≡ head_of of number ++ frame → record_in of number body ≡ image_record of number frame
+image_is id.Frame number body frame is =
     ap (λ (pixels : List ℕ). rec.Fram (record { number = number; pixels = pixels }))
     (ap (drop 4) (is ∙ ap (λ (head : List ℕ). head ++ frame) (frame_head number)) ∙ drop_at (big_bytes 4 number) frame 4 refl)
-image_is (out.Display output u) number body frame image is =
+image_is (id.Display output) number body frame is =
     ap (λ (pixels : List ℕ). rec.Frad (record { output = output; number = number; pixels = pixels })) (ap (drop 8) is ∙ drop_at (big_bytes 4 output ++ big_bytes 4 number) frame 8 refl)
-image_is (out.Capture output u) number body frame image is =
+image_is (id.Capture output) number body frame is =
     ap (λ (pixels : List ℕ). rec.Capt (record { output = output; number = number; pixels = pixels })) (ap (drop 8) is ∙ drop_at (big_bytes 4 output ++ big_bytes 4 number) frame 8 refl)
-image_is (out.Hit output layer) number body frame image is = absurd (false≢true image)
 
 -- one that commits something has its records, and one that commits nothing has none
 pub its_records : (commits : List Commit) (told : VsyncRecords) → has_commits commits ≡ true → vsync_records told ≡ records_if commits told
@@ -129,9 +129,7 @@ zip_push R (a ∷ xs) (b ∷ ys) x y zip r = (zip.0, zip_push R xs ys x y zip.1 
 -- the pixels of images are those of the views that they are of
 composed_is : (pictures : ℕ → Picture) (view : Output SourcedView) (image : Output ScreenOf) → IsOutput (IsComposed pictures) view image
     → map_output (λ (screen : ScreenOf). screen.frame) image ≡ map_output (pixels_of pictures) view
-composed_is pictures (out.Frame view) (out.Frame image) is = ap (λ (pixels : List ℕ). out.Frame pixels) is.frame
-composed_is pictures (out.Display n view) (out.Display m image) is = (λ i. out.Display (sym is.0 i) (is.1.frame i))
-composed_is pictures (out.Capture n view) (out.Capture m image) is = (λ i. out.Capture (sym is.0 i) (is.1.frame i))
+composed_is pictures (out.Image view) (out.Image image) is = (λ i. out.Image (record { of = sym is.0 i; shows = is.1.frame i }))
 composed_is pictures (out.Hit n layer) (out.Hit m there) is = (λ i. out.Hit (sym is.0 i) (sym is.1 i))
 composed_is pictures _ _ is = absurd is
 
@@ -143,9 +141,7 @@ composed_are pictures (view ∷ views) (image ∷ images) are = (λ i. composed_
 
 -- and their screens show images
 shown_is : (pictures : ℕ → Picture) (view : Output SourcedView) (image : Output ScreenOf) → IsOutput (IsComposed pictures) view image → OfImage (IsShown pictures) image
-shown_is pictures (out.Frame view) (out.Frame image) is = is.shown
-shown_is pictures (out.Display n view) (out.Display m image) is = is.1.shown
-shown_is pictures (out.Capture n view) (out.Capture m image) is = is.1.shown
+shown_is pictures (out.Image view) (out.Image image) is = is.1.shown
 shown_is pictures (out.Hit n layer) (out.Hit m there) is = tt
 shown_is pictures _ _ is = absurd is
 
@@ -165,9 +161,7 @@ pixels_are pictures due sourced shows =
     (λ x y wide high. view_image-order pictures due.layers due.order due.width due.height sourced.view shows x y wide high))
 
 output_is : (pictures : ℕ → Picture) (due : Output ImageDue) (view : Output SourcedView) → IsOutput IsViewDue due view → map_output (frame_of pictures) due ≡ map_output (pixels_of pictures) view
-output_is pictures (out.Frame due) (out.Frame view) is = ap (λ (pixels : List ℕ). out.Frame pixels) (pixels_are pictures due view is)
-output_is pictures (out.Display n due) (out.Display m view) is = (λ i. out.Display (is.0 i) (pixels_are pictures due view is.1 i))
-output_is pictures (out.Capture n due) (out.Capture m view) is = (λ i. out.Capture (is.0 i) (pixels_are pictures due view is.1 i))
+output_is pictures (out.Image due) (out.Image view) is = (λ i. out.Image (record { of = is.0 i; shows = pixels_are pictures due.shows view.shows is.1 i }))
 output_is pictures (out.Hit n layer) (out.Hit m there) is = (λ i. out.Hit (is.0 i) (is.1 i))
 output_is pictures _ _ is = absurd is
 
@@ -235,9 +229,7 @@ outputs_push xs ys x y same one =
 
 -- other images of the same output
 other_image : {A B : Type 0} (f : A → B) (output : Output A) → without_image (map_output f output) ≡ without_image output
-other_image f (out.Frame a) = refl
-other_image f (out.Display n a) = refl
-other_image f (out.Capture n a) = refl
+other_image f (out.Image image) = refl
 other_image f (out.Hit n layer) = refl
 
 pub other_images : {A B : Type 0} (f : A → B) (outputs : List (Output A)) → AreSameOutputs (map (map_output f) outputs) outputs
@@ -246,9 +238,7 @@ other_images f (output ∷ outputs) = (λ i. other_image f output i ∷ other_im
 
 -- a view that is due is of the output that is due
 due_output : (due : Output ImageDue) (view : Output SourcedView) → IsOutput IsViewDue due view → without_image due ≡ without_image view
-due_output (out.Frame due) (out.Frame view) is = refl
-due_output (out.Display n due) (out.Display m view) is = ap (λ (k : ℕ). out.Display k tt) is.0
-due_output (out.Capture n due) (out.Capture m view) is = ap (λ (k : ℕ). out.Capture k tt) is.0
+due_output (out.Image due) (out.Image view) is = ap (λ (of : ImageId). out.Image (record { of = of; shows = tt })) is.0
 due_output (out.Hit n layer) (out.Hit m there) is = (λ i. out.Hit (is.0 i) (is.1 i))
 due_output _ _ is = absurd is
 

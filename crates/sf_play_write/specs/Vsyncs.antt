@@ -59,10 +59,6 @@ CutsPictured expected shows handler report old new screens result =
     (pictures : ℕ → Picture) → AreExpected expected pictures handler → AreShown pictures screens
     → OnErr result (WritesPart old new (vsync_shown pictures shows.plan shows.timelines.items report handler.tree.layers))
 
--- the record of an image, which has these pixels, in a vsync of this number
-abbrev pub image_record : Output (Unit {0}) → ℕ → List ℕ → Record
-image_record of number pixels = output_record number (map_output (λ _. pixels) of)
-
 -- a view with its sources as its pixels
 abbrev pub pixels_of : (ℕ → Picture) → SourcedView → List ℕ
 pixels_of pictures sourced = image_bytes pictures sourced.view

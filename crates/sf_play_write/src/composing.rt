@@ -9,7 +9,7 @@ ghost use Rattle.sf_output_screen.specs.ScreenLists.{AreShown};
 ghost use Rattle.sf_play_write.specs.Vsyncs.{AreImagesOf, AreReadableViews, HasView, IsComposed, KeepsShown, without_image};
 
 use sf_base::NoMemory;
-use sf_output::Output;
+use sf_output::{Image, ImageId, Output};
 use sf_output_screen::{Engine, Pixels, Screen, Screens, View, painted_at_most};
 use sf_play::SourcedView;
 use std::thread;
@@ -20,13 +20,12 @@ use std::thread::Threads;
 /// mostly takes less than a thread takes to begin.
 const WORTH_A_THREAD: u64 = 4_194_304;
 
-/// Shows a view on the screen that is the output's. The screen
-/// is taken out.
+/// Shows a view on the screen of this image, which is taken out.
 fn compose_on<R: Threads + Sync, C: Pixels + Sync>(
     engine: &Engine<R>,
     screens: &mut Screens,
     contents: &[C],
-    of: &Output<()>,
+    of: ImageId,
     sourced: SourcedView,
 ) -> Result<Screen, NoMemory>
     requires readable { IsReadableView (map C.picture contents.now) sourced }
@@ -56,20 +55,9 @@ fn compose_output<R: Threads + Sync, C: Pixels + Sync>(
     ensures shown { KeepsShown screens.old screens.new }
 {
     match output {
-        Output::Frame(sourced) => {
-            let of = Output::Frame(());
-            let screen = compose_on(engine, screens, contents, &of, sourced)?;
-            Ok(Output::Frame(screen))
-        }
-        Output::Display(number, sourced) => {
-            let of = Output::Display(number, ());
-            let screen = compose_on(engine, screens, contents, &of, sourced)?;
-            Ok(Output::Display(number, screen))
-        }
-        Output::Capture(number, sourced) => {
-            let of = Output::Capture(number, ());
-            let screen = compose_on(engine, screens, contents, &of, sourced)?;
-            Ok(Output::Capture(number, screen))
+        Output::Image(Image { of, shows }) => {
+            let screen = compose_on(engine, screens, contents, of, shows)?;
+            Ok(Output::Image(Image { of, shows: screen }))
         }
         Output::Hit(number, layer) => Ok(Output::Hit(number, layer)),
     }
@@ -95,9 +83,9 @@ pub fn compose_views<R: Threads + Sync, C: Pixels + Sync>(
     Ok(images)
 }
 
-/// At most so many points of layers are painted to show a view as this output. What differs from the
+/// At most so many points of layers are painted to show a view as this image. What differs from the
 /// last one is looked for only where the whole is worth a thread.
-fn work_of(screens: &Screens, of: &Output<()>, view: &View) -> u64 {
+fn work_of(screens: &Screens, of: ImageId, view: &View) -> u64 {
     let points = u64::from(view.width).saturating_mul(u64::from(view.height));
     let whole = painted_at_most(view, points);
     if whole < WORTH_A_THREAD {
@@ -107,17 +95,11 @@ fn work_of(screens: &Screens, of: &Output<()>, view: &View) -> u64 {
 }
 
 /// Whether so much is painted for views that it is worth a thread of its own.
-fn is_worth(screens: &Screens, views: &[Output<SourcedView>]) -> bool {
+pub fn is_worth(screens: &Screens, views: &[Output<SourcedView>]) -> bool {
     let mut work = 0u64;
     for output in views {
         work = work.saturating_add(match output {
-            Output::Frame(sourced) => work_of(screens, &Output::Frame(()), &sourced.view),
-            Output::Display(number, sourced) => {
-                work_of(screens, &Output::Display(*number, ()), &sourced.view)
-            }
-            Output::Capture(number, sourced) => {
-                work_of(screens, &Output::Capture(*number, ()), &sourced.view)
-            }
+            Output::Image(image) => work_of(screens, image.of, &image.shows.view),
             Output::Hit(_, _) => 0,
         });
     }

@@ -9,9 +9,9 @@ mod vsync;
 mod writing;
 
 pub use closing::write_closing;
-pub use composing::{Beside, compose_beside, compose_views};
+pub use composing::{Beside, compose_beside, compose_views, is_worth};
 pub use play::{opening, show_play};
-pub use sf_output::Output;
+pub use sf_output::{Image, ImageId, Output};
 pub use sf_output_screen::{Engine, Screen, Screens, Workers};
 pub use sf_play::{
     Action, ActorSet, Player, RunFault, SourcedView, VsyncReport, is_time, permits_for,

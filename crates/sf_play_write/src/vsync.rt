@@ -7,13 +7,13 @@ ghost use Rattle.sf_play.specs.sf_commit.Handlers.{HandlerOf};
 ghost use Rattle.sf_io.specs.Causes.{Rose};
 ghost use Rattle.sf_output.specs.Outputs.{OfImage};
 ghost use Rattle.sf_output_screen.specs.sf_picture.declared.picture.Picture.{Picture};
-ghost use Rattle.sf_play.specs.sf_record.Events.{output_record};
+ghost use Rattle.sf_play.specs.sf_record.Events.{image_record};
 ghost use Rattle.sf_play.specs.sf_record.declared.record.Record.TheVariants as rec;
 ghost use Rattle.sf_play.specs.sf_play_report.Reports.{has_commits};
 ghost use Rattle.sf_play.specs.sf_play_report.Stages.{AreExpected, IsReadableView, IsStage, is_accepted};
 ghost use Rattle.sf_play.specs.law_played.Commits.{commit_shown};
 ghost use Rattle.sf_output_screen.specs.ScreenLists.{AreShown};
-ghost use Rattle.sf_output_screen.specs.Screens.{IsShown, is_image};
+ghost use Rattle.sf_output_screen.specs.Screens.{IsShown};
 ghost use Rattle.sf_play_write.specs.Vsyncs.{
   AreViewsDue,
   CutsPictured,
@@ -22,7 +22,6 @@ ghost use Rattle.sf_play_write.specs.Vsyncs.{
   HasView,
   WritesPictured,
   WritesVsync,
-  image_record,
   pixels_in,
   records_by,
   shown_record,
@@ -34,7 +33,7 @@ use crate::shows::Shows;
 use crate::writing::write_made;
 use sf_base::NoMemory;
 use sf_io::Sink;
-use sf_output::Output;
+use sf_output::{Image, ImageId, Output};
 use sf_output_screen::{Engine, Screen, Screens};
 use sf_play::{
     Commit, Handler, Hit, Lease, Plan, Record, RunFault, SourcedView, VsyncReport, commit_record,
@@ -81,17 +80,16 @@ fn has_commits(commits: &[Commit]) -> bool
     !commits.is_empty()
 }
 
-/// Writes the record of this output, of which the view that the screen showed last is.
+/// Writes the record of this image, of which the view that the screen showed last is.
 fn write_shown<K: Sink>(
     sink: &mut K,
     screen: &mut Screen,
-    of: &Output<()>,
+    of: ImageId,
     number: u32,
 ) -> Result<(), RunFault>
-    requires image { is_image of.now ≡ true }
     requires shows { is_some screen.old.view ≡ true }
-    ensures ok { OnOk result (Writes (K.taken sink.old) (K.taken sink.new) (image_record of.now number screen.old.frame ∷ [])) }
-    ensures err { OnErr result (WritesPart (K.taken sink.old) (K.taken sink.new) (image_record of.now number screen.old.frame ∷ [])) }
+    ensures ok { OnOk result (Writes (K.taken sink.old) (K.taken sink.new) (image_record of number screen.old.frame ∷ [])) }
+    ensures err { OnErr result (WritesPart (K.taken sink.old) (K.taken sink.new) (image_record of number screen.old.frame ∷ [])) }
     ensures view { screen.new.view ≡ screen.old.view }
     ensures frame { screen.new.frame ≡ screen.old.frame }
     ensures later { K.faults sink.old ≤ K.faults sink.new }
@@ -101,25 +99,26 @@ fn write_shown<K: Sink>(
     write_image(sink, of, number, screen.body(of))
 }
 
-/// Writes the record of an image, of which the view is that this screen showed last, and puts the screen
+/// Writes the record of an image, of which the view is that its screen showed last, and puts the screen
 /// among the others.
 fn write_on<K: Sink>(
     sink: &mut K,
     screens: &mut Screens,
     number: u32,
-    of: Output<()>,
-    screen: Screen,
+    image: Image<Screen>,
 ) -> Result<(), RunFault>
-    requires image { is_image of ≡ true }
-    requires shows { HasView screen }
-    ensures ok { OnOk result (Writes (K.taken sink.old) (K.taken sink.new) (image_record of number screen.frame ∷ [])) }
-    ensures err { OnErr result (WritesPart (K.taken sink.old) (K.taken sink.new) (image_record of number screen.frame ∷ [])) }
-    ensures shown { (pictures : ℕ → Picture) → IsShown pictures screen → AreShown pictures screens.old → OnOk result (AreShown pictures screens.new) }
+    requires shows { HasView image.shows }
+    ensures ok { OnOk result (Writes (K.taken sink.old) (K.taken sink.new) (image_record image.of number image.shows.frame ∷ [])) }
+    ensures err { OnErr result (WritesPart (K.taken sink.old) (K.taken sink.new) (image_record image.of number image.shows.frame ∷ [])) }
+    ensures shown { (pictures : ℕ → Picture) → IsShown pictures image.shows → AreShown pictures screens.old → OnOk result (AreShown pictures screens.new) }
     ensures later { K.faults sink.old ≤ K.faults sink.new }
     ensures failed { IsErrOf result RunFault.WriteFault → Rose (K.faults sink.old) (K.faults sink.new) }
 {
-    let mut screen = screen;
-    match write_shown(sink, &mut screen, &of, number) {
+    let Image {
+        of,
+        shows: mut screen,
+    } = image;
+    match write_shown(sink, &mut screen, of, number) {
         Ok(()) => {}
         Err(fault) => return Err(fault),
     }
@@ -145,15 +144,7 @@ fn write_output<K: Sink>(
     ensures failed { IsErrOf result RunFault.WriteFault → Rose (K.faults sink.old) (K.faults sink.new) }
 {
     match image {
-        Output::Frame(screen) => write_on(sink, screens, number, Output::Frame(()), screen),
-        Output::Display(output, screen) => {
-            let of = Output::Display(output, ());
-            write_on(sink, screens, number, of, screen)
-        }
-        Output::Capture(output, screen) => {
-            let of = Output::Capture(output, ());
-            write_on(sink, screens, number, of, screen)
-        }
+        Output::Image(image) => write_on(sink, screens, number, image),
         Output::Hit(output, layer) => {
             let hit = Hit {
                 output,

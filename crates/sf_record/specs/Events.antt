@@ -1,6 +1,8 @@
 -- The records of what a run shows, in order.
 use Rattle.std.specs.Prelude.{ℕ, List, [], ◌∷◌, ◌++◌, map}
 use Rattle.std.specs.List.{flat_map}
+use Rattle.sf_output.specs.declared.image.ImageId.{ImageId}
+use Rattle.sf_output.specs.declared.image.ImageId.TheVariants as id
 use Rattle.sf_output.specs.declared.output.Output.{Output}
 use Rattle.sf_output.specs.declared.output.Output.TheVariants as out
 use Rattle.sf_record.specs.declared.event.Event.{Event}
@@ -13,11 +15,15 @@ use Rattle.sf_record.specs.declared.record.Record.{Record}
 use Rattle.sf_record.specs.declared.record.Record.TheVariants as rec
 use Rattle.sf_record.specs.declared.record.StuckEntry.{StuckEntry}
 
+-- the record of an image with these pixels in the vsync of this number
+abbrev pub image_record : ImageId → ℕ → List ℕ → Record
+image_record id.Frame number pixels = rec.Fram (record { number = number; pixels = pixels })
+image_record (id.Display output) number pixels = rec.Frad (record { output = output; number = number; pixels = pixels })
+image_record (id.Capture output) number pixels = rec.Capt (record { output = output; number = number; pixels = pixels })
+
 -- the record of what a vsync of this number shows
 abbrev pub output_record : ℕ → Output (List ℕ) → Record
-output_record number (out.Frame pixels) = rec.Fram (record { number = number; pixels = pixels })
-output_record number (out.Display output pixels) = rec.Frad (record { output = output; number = number; pixels = pixels })
-output_record number (out.Capture output pixels) = rec.Capt (record { output = output; number = number; pixels = pixels })
+output_record number (out.Image image) = image_record image.of number image.shows
 output_record number (out.Hit output layer) = rec.Hits (record { output = output; number = number; layer = layer })
 
 -- the records of a vsync: its own, those of its commits, and those of what it shows

@@ -4,8 +4,8 @@ use Rattle.std.specs.Io.KnownBytes.{Appends}
 use Rattle.std.specs.List.{flat_map}
 use Rattle.byteorder.specs.Endian.{big_bytes}
 use Rattle.sf_io.specs.Streams.{framed}
-use Rattle.sf_output.specs.declared.output.Output.{Output}
-use Rattle.sf_output.specs.declared.output.Output.TheVariants as out
+use Rattle.sf_output.specs.declared.image.ImageId.{ImageId}
+use Rattle.sf_output.specs.declared.image.ImageId.TheVariants as id
 use Rattle.sf_record.specs.declared.record.ArrivalEntry.{ArrivalEntry}
 use Rattle.sf_record.specs.declared.record.CommitRecord.{CommitRecord}
 use Rattle.sf_record.specs.declared.record.CommittedBuffer.{CommittedBuffer}
@@ -130,18 +130,16 @@ unfoldable pub record_bytes : Record → List ℕ
 record_bytes r = framed (tag_of r) (body_of r)
 
 -- the record of an image by its body
-abbrev pub image_in : Output (Unit {0}) → ℕ → List ℕ → Record
-image_in (out.Frame u) number body = rec.Fram (record { number = number; pixels = drop 4 body })
-image_in (out.Display output u) number body = rec.Frad (record { output = output; number = number; pixels = drop 8 body })
-image_in (out.Capture output u) number body = rec.Capt (record { output = output; number = number; pixels = drop 8 body })
-image_in (out.Hit output layer) number body = rec.Hits (record { output = output; number = number; layer = layer })
+abbrev pub image_in : ImageId → ℕ → List ℕ → Record
+image_in id.Frame number body = rec.Fram (record { number = number; pixels = drop 4 body })
+image_in (id.Display output) number body = rec.Frad (record { output = output; number = number; pixels = drop 8 body })
+image_in (id.Capture output) number body = rec.Capt (record { output = output; number = number; pixels = drop 8 body })
 
--- the body of an image begins with the number of its output, if it has one, and that of its vsync; that of a hit is whole
-abbrev pub BeginsImage : Output (Unit {0}) → ℕ → List ℕ → Type 0
-BeginsImage (out.Frame u) number body = take 4 body ≡ u32_bytes number
-BeginsImage (out.Display output u) number body = take 8 body ≡ u32_bytes output ++ u32_bytes number
-BeginsImage (out.Capture output u) number body = take 8 body ≡ u32_bytes output ++ u32_bytes number
-BeginsImage (out.Hit output layer) number body = body ≡ u32_bytes output ++ u32_bytes number ++ u32_bytes layer
+-- the body of an image begins with the number of its display or capture, if it has one, and that of its vsync
+abbrev pub BeginsImage : ImageId → ℕ → List ℕ → Type 0
+BeginsImage id.Frame number body = take 4 body ≡ u32_bytes number
+BeginsImage (id.Display output) number body = take 8 body ≡ u32_bytes output ++ u32_bytes number
+BeginsImage (id.Capture output) number body = take 8 body ≡ u32_bytes output ++ u32_bytes number
 
 -- the bytes of records, one after another
 unfoldable pub bytes_of : List Record → List ℕ

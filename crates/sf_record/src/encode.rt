@@ -18,7 +18,7 @@ use crate::record::{
 use byteorder::{BigEndian, ByteOrder};
 use sf_base::NoMemory;
 use sf_io::{Sink, put};
-use sf_output::Output;
+use sf_output::ImageId;
 use sf_script::ScriptFault;
 use std::alloc::Global;
 
@@ -408,15 +408,14 @@ pub fn write_record<K: Sink>(alloc: Global, sink: &mut K, shown: &Record) -> Res
 }
 
 /// The tag of the record of an image, whose numbers fit their fields if that of its vsync does.
-fn image_tag(of: &Output<()>) -> [u8; 4]
-    ensures tag { (number : ℕ) (body : List ℕ) → result ≡ tag_of (image_in of.now number body) }
-    ensures fits { (number : ℕ) (body : List ℕ) → Fits32 number → FieldsFit (image_in of.now number body) }
+fn image_tag(of: ImageId) -> [u8; 4]
+    ensures tag { (number : ℕ) (body : List ℕ) → result ≡ tag_of (image_in of number body) }
+    ensures fits { (number : ℕ) (body : List ℕ) → Fits32 number → FieldsFit (image_in of number body) }
 {
-    match *of {
-        Output::Frame(()) => *b"FRAM",
-        Output::Display(_output, ()) => *b"FRAD",
-        Output::Capture(_output, ()) => *b"CAPT",
-        Output::Hit(_output, _layer) => *b"HITS",
+    match of {
+        ImageId::Frame => *b"FRAM",
+        ImageId::Display(_output) => *b"FRAD",
+        ImageId::Capture(_output) => *b"CAPT",
     }
 }
 
@@ -426,15 +425,15 @@ fn image_tag(of: &Output<()>) -> [u8; 4]
 #[tactic(auto, unfolding(crate::specs::Records::record_bytes, crate::specs::Records::body_of))]
 pub fn write_image<K: Sink>(
     sink: &mut K,
-    of: &Output<()>,
+    of: ImageId,
     number: u32,
     body: &[u8],
 ) -> Result<(), RunFault>
-    requires begins { BeginsImage of.now number body.now }
-    ensures ok { OnOk result (Appends (K.taken sink.old) (K.taken sink.new) (record_bytes (image_in of.now number body.now))) }
-    ensures fits { OnOk result (RecordFits (image_in of.now number body.now)) }
-    ensures err { OnErr result (TookPrefix (K.taken sink.old) (K.taken sink.new) (record_bytes (image_in of.now number body.now))) }
-    ensures begun { IsErrOf result RunFault.WriteFault → RecordFits (image_in of.now number body.now) }
+    requires begins { BeginsImage of number body.now }
+    ensures ok { OnOk result (Appends (K.taken sink.old) (K.taken sink.new) (record_bytes (image_in of number body.now))) }
+    ensures fits { OnOk result (RecordFits (image_in of number body.now)) }
+    ensures err { OnErr result (TookPrefix (K.taken sink.old) (K.taken sink.new) (record_bytes (image_in of number body.now))) }
+    ensures begun { IsErrOf result RunFault.WriteFault → RecordFits (image_in of number body.now) }
     ensures nothing { IsErrOf result RunFault.NoMemory → sink.new ≡ sink.old }
     ensures later { K.faults sink.old ≤ K.faults sink.new }
     ensures failed { IsErrOf result RunFault.WriteFault → Rose (K.faults sink.old) (K.faults sink.new) }

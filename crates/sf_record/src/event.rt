@@ -1,13 +1,13 @@
 //! What a turn of a run shows, a reply or a vsync, and the records that it comes to.
 ghost use Rattle.std.specs.Prelude.{◌≡◌, ◌++◌, IfOk, OnOk, map};
 ghost use Rattle.sf_record.specs.declared.record.Record.TheVariants as rec;
-ghost use Rattle.sf_record.specs.Events.{event_records, output_record, vsync_records};
+ghost use Rattle.sf_record.specs.Events.{event_records, image_record, output_record, vsync_records};
 
 use crate::record::{
     CommitRecord, Frame, Hit, NumberedFrame, Record, ReplyRecord, TimelineValue, VsyncHeader,
 };
 use sf_base::{Items, NoMemory};
-use sf_output::Output;
+use sf_output::{Image, ImageId, Output};
 use std::alloc::Global;
 
 /// What a vsync committed, and what it shows, each image as its pixels.
@@ -28,22 +28,32 @@ pub enum Event {
     Vsync(VsyncRecords),
 }
 
+/// The record of an image in the vsync of this number.
+fn image_record(number: u32, image: Image<Items<u8>>) -> Record
+    ensures { result ≡ image_record image.of number image.shows }
+{
+    let Image { of, shows: pixels } = image;
+    match of {
+        ImageId::Frame => Record::Fram(Frame { number, pixels }),
+        ImageId::Display(output) => Record::Frad(NumberedFrame {
+            output,
+            number,
+            pixels,
+        }),
+        ImageId::Capture(output) => Record::Capt(NumberedFrame {
+            output,
+            number,
+            pixels,
+        }),
+    }
+}
+
 /// The record of what a vsync of this number shows.
 fn output_record(number: u32, output: Output<Items<u8>>) -> Record
     ensures { result ≡ output_record number output }
 {
     match output {
-        Output::Frame(pixels) => Record::Fram(Frame { number, pixels }),
-        Output::Display(output, pixels) => Record::Frad(NumberedFrame {
-            output,
-            number,
-            pixels,
-        }),
-        Output::Capture(output, pixels) => Record::Capt(NumberedFrame {
-            output,
-            number,
-            pixels,
-        }),
+        Output::Image(image) => image_record(number, image),
         Output::Hit(output, layer) => Record::Hits(Hit {
             output,
             number,

@@ -11,7 +11,7 @@ pub returns-in-Ok-put-clause-shown : goal.returns-in-Ok-put-clause-shown
 returns-in-Ok-put-clause-shown g c = λ pictures is was.
     subst (AreShown pictures) (sym c.in-Ok-put.ensures.ok)
     (All-push (λ (one : OutputScreen). IsShown pictures one.screen) c.args.screens.now _ was
-    (still_shown pictures c.args.screen c.write_shown.new.screen c.write_shown.ensures.view c.write_shown.ensures.frame is))
+    (still_shown pictures c.args.image.shows c.write_shown.new.screen c.write_shown.ensures.view c.write_shown.ensures.frame is))
 
 pub returns-in-Err-put-clause-err : goal.returns-in-Err-put-clause-err
 returns-in-Err-put-clause-err g c = part_whole _ _ _ c.in-Ok.ensures.ok

@@ -6,16 +6,16 @@ use Rattle.sf_play_write.proofs.vsync.write_shown.Goals as goal
 
 pub write_image-requires : goal.write_image-requires
 write_image-requires g c =
-    let body = c.body.ensures c.args.number (ap (λ (s : ScreenOf). s.numbers) c.number.ensures) ∙ ap (λ (s : ScreenOf). head_of c.args.of.now c.args.number ++ s.frame) c.number.ensures in
-    record { begins = image_begins c.args.of.now c.args.number c.body.result.now c.args.screen.now.frame c.requires.image body }
+    let body = c.body.ensures c.args.number (ap (λ (s : ScreenOf). s.numbers) c.number.ensures) ∙ ap (λ (s : ScreenOf). head_of c.args.of c.args.number ++ s.frame) c.number.ensures in
+    record { begins = image_begins c.args.of c.args.number c.body.result.now c.args.screen.now.frame body }
 
 pub returns-clause-ok : goal.returns-clause-ok
 returns-clause-ok g c =
-    let body = c.body.ensures c.args.number (ap (λ (s : ScreenOf). s.numbers) c.number.ensures) ∙ ap (λ (s : ScreenOf). head_of c.args.of.now c.args.number ++ s.frame) c.number.ensures in
-    one_written c.write_image.result _ _ _ _ (image_is c.args.of.now c.args.number c.body.result.now c.args.screen.now.frame c.requires.image body) c.write_image.ensures.ok c.write_image.ensures.fits
+    let body = c.body.ensures c.args.number (ap (λ (s : ScreenOf). s.numbers) c.number.ensures) ∙ ap (λ (s : ScreenOf). head_of c.args.of c.args.number ++ s.frame) c.number.ensures in
+    one_written c.write_image.result _ _ _ _ (image_is c.args.of c.args.number c.body.result.now c.args.screen.now.frame body) c.write_image.ensures.ok c.write_image.ensures.fits
 
 pub returns-clause-err : goal.returns-clause-err
 returns-clause-err g c =
-    let body = c.body.ensures c.args.number (ap (λ (s : ScreenOf). s.numbers) c.number.ensures) ∙ ap (λ (s : ScreenOf). head_of c.args.of.now c.args.number ++ s.frame) c.number.ensures in
-    one_part c.write_image.result _ _ _ _ (image_is c.args.of.now c.args.number c.body.result.now c.args.screen.now.frame c.requires.image body) c.write_image.ensures.err c.write_image.ensures.begun
+    let body = c.body.ensures c.args.number (ap (λ (s : ScreenOf). s.numbers) c.number.ensures) ∙ ap (λ (s : ScreenOf). head_of c.args.of c.args.number ++ s.frame) c.number.ensures in
+    one_part c.write_image.result _ _ _ _ (image_is c.args.of c.args.number c.body.result.now c.args.screen.now.frame body) c.write_image.ensures.err c.write_image.ensures.begun
     (λ wanting. ap g.K.Sink.taken (c.write_image.ensures.nothing wanting))

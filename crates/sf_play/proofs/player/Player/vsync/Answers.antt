@@ -4,7 +4,7 @@ use Rattle.sf_play_report.specs.sf_commit.Releases.{CommittedOf, ReleaseOf}
 use Rattle.sf_play_report.specs.sf_surface.Tokens.{ReadLeaseOf}
 use Rattle.sf_play_report.specs.sf_actor.Desks.{DeskHome, has_queue}
 use Rattle.sf_play_report.specs.sf_actor.Plain.{home_of, taken_in, view_of}
-use Rattle.sf_play.specs.Giving.{GivesFrames}
+use Rattle.law_rights.specs.Standing.{GiveAll}
 use Rattle.sf_play.specs.Players.{PlayOf, PlayerOf, Stands}
 use Rattle.sf_play.proofs.VsyncParts.{queues_there, rises_then}
 use Rattle.sf_play.proofs.player.Player.vsync.Goals as goal
@@ -46,7 +46,7 @@ returns-clause-makes g c =
         decides = rw (← number) c.in_ok-commits.ensures.decides;
         turns = c.vsync.ensures.turns;
         only_decides = c.vsync.ensures.only;
-        gives = subst (λ (rs : List (ReleaseOf ReadLeaseOf)). GivesFrames (home_of c.vsync.new.self.desk) (c.self.inside.vsyncs + 1) rs (view_of c.vsync.new.self.desk) (view_of c.release_all.new.actor_set.desk))
+        gives = subst (λ (rs : List (ReleaseOf ReadLeaseOf)). GiveAll (home_of c.vsync.new.self.desk) (c.self.inside.vsyncs + 1) rs (view_of c.vsync.new.self.desk) (view_of c.release_all.new.actor_set.desk))
             (c.into_vec.ensures ∙ ap (λ (v : CommittedOf ReadLeaseOf). v.releases) c.commits.view_is) c.in_ok-release_all.ensures.gives;
         only_gives = c.in_ok-release_all.ensures.only;
         rest = refl;
