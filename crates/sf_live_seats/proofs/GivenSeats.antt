@@ -112,7 +112,7 @@ module _ {B : Type 0} where
     pub given_turns : seats.turns ≡ record old.seats.turns { is_first = false; out = 0; leaves = [] }
 
   module _ (by : ℕ) (buffers : TableId) (locks : Locks B) (old new : FirstSeats B) (seats : Seats B) (first : IsFirst buffers locks old) (fresh : Contains (old.seats.by ∷ gave_of old) by → ⊥) (unused : KnowsNothing old.seats) (s : IsSplit by old new seats) where
-    hands : GivesAt locks by seats.arrivals (gave_of old) old.seats.intake new.seats.intake seats.pass seats.intake
+    hands : GivesAt locks by seats.arrivals (gave_of old) old.seats.last old.seats.intake new.seats.intake seats.pass seats.intake
     hands =
         gives_at locks old.seats.by by seats.arrivals (gave_of old) old.seats.last old.seats.intake new.seats.intake seats.pass seats.intake first.number fresh
         (ap (λ (p : ArrivalsPass). p.table) s.given_arrivals ∙ first.own.own_arrivals) (ap (λ (p : ArrivalsPass). p.mark) s.given_arrivals ∙ first.own.marked) (ap (λ (p : ArrivalsPass). p.by) s.given_arrivals)
@@ -150,7 +150,9 @@ module _ {B : Type 0} where
           (subst (λ (xs : List (ℕ × ℕ)). IsInOrder old.seats.last xs) (sym same_order) first.own.in_order);
       takes = λ other. absurd (other (s.number ∙ first.number));
       pass = s.pass ∙ sym (hands.same_pass new.seats.arrivals);
-      way = subst (λ (bs : List ℕ). IsAtIntake locks new.seats.by bs new.seats.last new.seats.intake) (sym gave_is) (hands.way new.seats.by new.seats.last (s.number ∙ first.number));
+      way =
+          subst (λ (c : Clock). IsAtIntake locks new.seats.by (gave_of new) c new.seats.intake) (sym s.last)
+          (subst (λ (bs : List ℕ). IsAtIntake locks new.seats.by bs old.seats.last new.seats.intake) (sym gave_is) (hands.way new.seats.by (s.number ∙ first.number)));
     }
 
     leads_all : AllByRecursion (Leads (gave_of new)) new.seats.queues.items

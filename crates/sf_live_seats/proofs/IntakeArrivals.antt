@@ -2,10 +2,11 @@
 use Rattle.std.proofs.Common.{◌≡◌, ℕ, zero, suc, ◌+◌, ◌<◌, ◌≤◌, ◌==◌, true, false, List, [], ◌∷◌, ◌++◌, inl, inr, length, get_or, set, None, Some, arith, ap, ap₂, ◌∙◌, sym, refl, subst}
 use Rattle.std.specs.Prelude.{Option, map, option_to_list, Contains}
 use Rattle.std.specs.Vec.Iter.{into_iter_items}
-use Rattle.std.specs.List.{All, list_any, position, position_or_len}
+use Rattle.std.specs.List.{All, AllByRecursion, list_any, position, position_or_len}
 use Rattle.std.proofs.Math.Nat.{le-max_left, le-max_right}
 use Rattle.std.proofs.lemmas.Bool.{cases_Bool, eqb-true, eq-eqb, false≢true}
-use Rattle.std.proofs.lemmas.List.{append-nil, append_assoc}
+use Rattle.std.proofs.lemmas.Bool.Decides.{nat_tests}
+use Rattle.std.proofs.lemmas.List.{append-nil, append_assoc, length-append}
 use Rattle.std.proofs.lemmas.List.Elements.{Contains-append_cases, Contains-append_left, Contains-append_right}
 use Rattle.atomic_table.specs.Seated.{TableId}
 use Rattle.sf_calls.specs.Histories.{calls_by}
@@ -22,7 +23,7 @@ use Rattle.sf_live_seats.specs.declared.inbox.Courier.{Courier}
 use Rattle.sf_live_seats.specs.declared.inbox.Inbox.{Inbox}
 use Rattle.sf_live_seats.specs.Arriving.{ArrivalsPass}
 use Rattle.sf_live_seats.specs.Calls.{IsMade, SentOne}
-use Rattle.sf_live_seats.specs.Inboxes.{AreCouriers, Carries, HasAll, HasCouriers, Hears, IsAbleTo, IsBehind, IsCourier, IsInbox, IsLater, IsOneOf, IsSameInbox, is_courier, left_of, number_of, sent_by}
+use Rattle.sf_live_seats.specs.Inboxes.{AreCouriers, Carries, GaveMore, HasAll, HasPasses, Hears, IsAbleTo, IsBehind, IsBelow, IsCourier, IsInbox, IsLater, IsOneOf, IsSameInbox, is_courier, left_of, number_of, sent_by}
 use Rattle.sf_live_seats.specs.Sent.{sent_in, takes_in}
 use Rattle.sf_live_seats.proofs.CallOrder.{contains_cons}
 use Rattle.sf_live_seats.proofs.QueuePass.{no_place, place_is}
@@ -219,7 +220,7 @@ module _ {B : Type 0} where
       })
 
   -- what is left was sent by one whose courier is here
-  pub left_courier : (table : TableId) (inbox : Inbox B) (oldest : Arrival ReadLeaseOf) (more : List (Arrival ReadLeaseOf)) → IsInbox table inbox → HasCouriers inbox → left_of inbox ≡ oldest ∷ more
+  pub left_courier : (table : TableId) (inbox : Inbox B) (oldest : Arrival ReadLeaseOf) (more : List (Arrival ReadLeaseOf)) → IsInbox table inbox → ((by : ℕ) → Contains inbox.taker.made by → Contains (map number_of inbox.couriers.items) by) → left_of inbox ≡ oldest ∷ more
       → position (is_courier oldest.actor.0) inbox.couriers.items ≡ None → ⊥
   left_courier table inbox oldest more own all left none =
       let given : Contains inbox.taker.given oldest = subst (λ (list : List (Arrival ReadLeaseOf)). Contains list oldest) (ap (λ (list : List (Arrival ReadLeaseOf)). own.forwarded ++ list) (sym left) ∙ own.whole)
@@ -228,14 +229,40 @@ module _ {B : Type 0} where
       let high = no_place (is_courier oldest.actor.0) inbox.couriers.items none in
       omega (arith, low, high)
 
-  -- where the same senders were made, and couriers of the same numbers are here
-  pub same_couriers : (old new : Inbox B) → HasCouriers old → new.taker.made ≡ old.taker.made → map number_of new.couriers.items ≡ map number_of old.couriers.items → HasCouriers new
-  same_couriers old new all made numbers = λ by there. subst (λ (ns : List ℕ). Contains ns by) (sym numbers) (all by (subst (λ (ns : List ℕ). Contains ns by) made there))
+  -- stamps below a number are below a greater one
+  pub below_more : (bound more : ℕ) (couriers : List (Courier B)) → bound ≤ more → AllByRecursion (IsBelow bound) couriers → AllByRecursion (IsBelow more) couriers
+  below_more bound more [] up below = tt
+  below_more bound more (c ∷ couriers) up below = ((λ m there. let a = below.0 m there in omega (arith, a, up)), below_more bound more couriers up below.1)
+
+  below_set : (bound more : ℕ) (couriers : List (Courier B)) (place : ℕ) (old new : Courier B) → bound ≤ more → (IsBelow bound (get_or couriers place old) → IsBelow more new)
+      → AllByRecursion (IsBelow bound) couriers → AllByRecursion (IsBelow more) (set couriers place new)
+  below_set bound more [] place old new up put below = tt
+  below_set bound more (c ∷ couriers) zero old new up put below = (put below.0, below_more bound more couriers up below.1)
+  below_set bound more (c ∷ couriers) (suc place) old new up put below = ((λ m there. let a = below.0 m there in omega (arith, a, up)), below_set bound more couriers place old new up put below.1)
+
+  pub passes_later : (bound more : ℕ) (made : List ℕ) (couriers : List (Courier B)) → bound ≤ more → HasPasses bound made couriers → HasPasses more made couriers
+  passes_later bound more made couriers up has = record { there = has.there; below = below_more bound more couriers up has.below }
+
+  -- where the same senders were made, and the same couriers are here
+  pub same_passes : (bound : ℕ) (made after : List ℕ) (couriers now : List (Courier B)) → HasPasses bound made couriers → after ≡ made → now ≡ couriers → HasPasses bound after now
+  same_passes bound made after couriers now has made_same same = subst (λ (ns : List ℕ). HasPasses bound ns now) (sym made_same) (subst (λ (cs : List (Courier B)). HasPasses bound made cs) (sym same) has)
 
   -- after a courier carried, or was refused
-  pub put_couriers : (old new : Inbox B) (place : ℕ) (one next : Courier B) → HasCouriers old → one ≡ get_or old.couriers.items place one → next.by ≡ one.by → new.taker ≡ old.taker → new.couriers.items ≡ set old.couriers.items place next → HasCouriers new
-  put_couriers old new place one next all there by taker couriers =
-      same_couriers old new all (ap (λ t. t.made) taker) (ap (map number_of) couriers ∙ same_numbers old.couriers.items place one next (by ∙ ap number_of there))
+  pub put_courier : (bound more : ℕ) (made : List ℕ) (couriers : List (Courier B)) (place : ℕ) (one next : Courier B) → HasPasses bound made couriers → one ≡ get_or couriers place one → next.by ≡ one.by → bound ≤ more
+      → (IsBelow bound one → IsBelow more next) → HasPasses more made (set couriers place next)
+  put_courier bound more made couriers place one next has there by up put = record {
+    there = λ n made_there. subst (λ (ns : List ℕ). Contains ns n) (sym (same_numbers couriers place one next (by ∙ ap number_of there))) (has.there n made_there);
+    below = below_set bound more couriers place one next up (subst (λ (c : Courier B). IsBelow bound c → IsBelow more next) there put) has.below;
+  }
+
+  -- what a courier carried has the stamp that was given, above those before
+  pub carries_below : (bound : ℕ) (old new : Courier B) (stamp given step : ℕ) (txn : Contents ReadLeaseOf) → Carries old new stamp given step txn → bound ≤ stamp + 1 → IsBelow bound old → IsBelow (given + 1) new
+  carries_below bound old new stamp given step txn carries up below = λ m there.
+      elim (contains_cons (step, given) (sent_in (calls_by old.by old.pass.seen)) m
+      (subst (λ (ms : List (ℕ × ℕ)). Contains ms m) carries.moments (subst (λ (n : ℕ). Contains (sent_in (calls_by n new.pass.seen)) m) carries.by there))) [
+        | inl same ↦ (let a = ap (λ (n : ℕ × ℕ). n.1) same in omega (arith, a))
+        | inr before ↦ (let a = below m before in let b = carries.above in omega (arith, a, b, up))
+      ]
 
   -- a refusal, and nothing, leaves the inbox as it was
   pub stays_inbox : (table : TableId) (old new : Inbox B) → IsInbox table old → left_of new ≡ left_of old → new.taker ≡ old.taker → new.senders ≡ old.senders → new.couriers.items ≡ old.couriers.items → IsInbox table new
@@ -333,6 +360,16 @@ has_all holds old new list taken short none = record {
   given = sym (append-nil new.given) ∙ ap (λ (xs : List (Arrival ReadLeaseOf)). new.given ++ xs) (sym none) ∙ taken.whole;
   heard = (taken.dry short).heard;
 }
+
+-- a list that is not short is as long as one can be
+pub gave_more : (holds : ReadLeaseOf → Type 0) (old new : TakerView ReadLeaseOf) (list : List (Arrival ReadLeaseOf)) → HasTaken holds old new list → (length list < 4096 → new.waiting ≡ []) → GaveMore old new
+gave_more holds old new list taken short = elim (cases_Bool (length list == 4096)) [
+  | inl met ↦ inr (let full = eqb-true (length list) 4096 met in let long = ap (λ (xs : List (Arrival ReadLeaseOf)). length xs) taken.given ∙ length-append old.given list in omega (arith, full, long))
+  | inr unmet ↦ inl (
+      let few = taken.few in
+      let low : length list < 4096 = grind (arith, nat_tests, few, unmet) in
+      record { counted = (taken.dry low).counted; all = has_all holds old new list taken low (short low) })
+]
 
 module _ {B : Type 0} where
   pub same_inbox : (old new : Inbox B) → new.taker ≡ old.taker → IsSameInbox old new

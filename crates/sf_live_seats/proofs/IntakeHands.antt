@@ -1,6 +1,7 @@
 -- What callers have at an intake.
-use Rattle.std.proofs.Common.{◌≡◌, ℕ, ◌≤◌, ◌==◌, false, true, List, [], ◌∷◌, ◌++◌, inl, inr, length, None, Some, arith, ap, ap₂, ◌∙◌, sym, refl, subst}
+use Rattle.std.proofs.Common.{◌≡◌, ℕ, ◌+◌, ◌≤◌, ◌==◌, false, true, List, [], ◌∷◌, ◌++◌, inl, inr, length, None, Some, arith, ap, ap₂, ◌∙◌, sym, refl, subst}
 use Rattle.std.specs.Prelude.{Bool, Option, is_none, map, Contains}
+use Rattle.std.specs.List.{AllByRecursion}
 use Rattle.std.proofs.lemmas.Bool.{cases_Bool, eqb-true, false≢true}
 use Rattle.std.proofs.lemmas.List.{length-append, map-append}
 use Rattle.std.proofs.lemmas.List.Elements.{Contains-append_cases, Contains-append_left, Contains-append_right}
@@ -22,10 +23,10 @@ use Rattle.sf_live_seats.specs.declared.seats.Seats.{Seats}
 use Rattle.sf_live_seats.specs.Arriving.{ArrivalEntry, ArrivalsPass}
 use Rattle.sf_live_seats.specs.Closing.{OpensIntake}
 use Rattle.sf_live_seats.specs.First.{HandsOut, KnowsNothing, MayHandOut}
-use Rattle.sf_live_seats.specs.Inboxes.{Admits, AreCouriers, HasCouriers, IsCourier, IsEmpty, IsInbox, IsOneOf, left_of, number_of, sent_by}
+use Rattle.sf_live_seats.specs.Inboxes.{Admits, AreCouriers, HasPasses, IsBelow, IsCourier, IsEmpty, IsInbox, IsOneOf, left_of, number_of, sent_by}
 use Rattle.sf_live_seats.specs.Seats.{IsAtIntake, arrivals_known, is_finished, pass_at, posts_of, tells_of, view_of}
 use Rattle.sf_live_seats.specs.Sent.{sent_in, takes_in}
-use Rattle.sf_live_seats.proofs.IntakeArrivals.{has_here, has_later, has_none}
+use Rattle.sf_live_seats.proofs.IntakeArrivals.{has_here, has_later, has_none, passes_later}
 use Rattle.sf_live_seats.proofs.CallOrder.{contains_cons}
 
 -- nobody sent what is of others
@@ -50,7 +51,13 @@ module _ {B : Type 0} where
   way_later locks by gave before after at.Nothing rose way = way
   way_later locks by gave before after (at.Sends outbox) rose way =
       record { intake = way.intake; number = way.number; apart = way.apart; ready = record { count = way.ready.count; stamp = (let a = way.ready.stamp in omega (arith, a, rose)) } }
-  way_later locks by gave before after (at.Takes inbox) rose way = way
+  way_later locks by gave before after (at.Takes inbox) rose way = record {
+    intake = way.intake;
+    number = way.number;
+    gave = way.gave;
+    own = way.own;
+    couriers = passes_later (before.stamp + 1) (after.stamp + 1) inbox.taker.made inbox.couriers.items (omega (arith, rose)) way.couriers;
+  }
   way_later locks by gave before after at.Finished rose way = way
 
   -- where there is no intake, nobody has anything there
@@ -132,35 +139,43 @@ module _ {B : Type 0} where
         count = (let a = admits.senders in let b = own.count in let d = ap (λ (ns : List ℕ). length ns) made ∙ length-append old.taker.made (by ∷ []) in omega (arith, a, b, d));
       }
 
-  admitted_couriers : (by : ℕ) (pass : ArrivalsPass) (old new : Inbox B) → HasCouriers old → Admits by pass old new → HasCouriers new
-  admitted_couriers by pass old new all admits = λ n there.
+  below_snoc : (bound : ℕ) (couriers : List (Courier B)) (new : Courier B) → AllByRecursion (IsBelow bound) couriers → IsBelow bound new → AllByRecursion (IsBelow bound) (couriers ++ new ∷ [])
+  below_snoc bound [] new below is = (is, tt)
+  below_snoc bound (c ∷ couriers) new below is = (below.0, below_snoc bound couriers new below.1 is)
+
+  admitted_passes : (bound by : ℕ) (pass : ArrivalsPass) (old new : Inbox B) → HasPasses bound old.taker.made old.couriers.items → Admits by pass old new → pass.seen ≡ [] → HasPasses bound new.taker.made new.couriers.items
+  admitted_passes bound by pass old new has admits nothing =
       let courier : Courier B = record { by = by; pass = pass } in
-      subst (λ (ns : List ℕ). Contains ns n) (sym (ap (map number_of) admits.couriers ∙ map-append number_of old.couriers.items (courier ∷ [])))
-      (elim (Contains-append_cases old.taker.made (by ∷ []) n (subst (λ (ns : List ℕ). Contains ns n) (ap (λ t. t.made) admits.taker) there)) [
-        | inl before ↦ Contains-append_left (map number_of old.couriers.items) (by ∷ []) n (all n before)
-        | inr last ↦ Contains-append_right (map number_of old.couriers.items) (by ∷ []) n last
-      ])
+      record {
+        there = λ n there. subst (λ (ns : List ℕ). Contains ns n) (sym (ap (map number_of) admits.couriers ∙ map-append number_of old.couriers.items (courier ∷ [])))
+            (elim (Contains-append_cases old.taker.made (by ∷ []) n (subst (λ (ns : List ℕ). Contains ns n) (ap (λ t. t.made) admits.taker) there)) [
+              | inl before ↦ Contains-append_left (map number_of old.couriers.items) (by ∷ []) n (has.there n before)
+              | inr last ↦ Contains-append_right (map number_of old.couriers.items) (by ∷ []) n last
+            ]);
+        below = subst (λ (cs : List (Courier B)). AllByRecursion (IsBelow bound) cs) (sym admits.couriers)
+            (below_snoc bound old.couriers.items courier has.below (λ m there. absurd (has_none m (subst (λ seen. Contains (sent_in (calls_by by seen)) m) nothing there))));
+      }
 
   -- what the first caller has there, after it gave a caller something, and what that caller has
-  pub record GivesAt (locks : Locks B) (by : ℕ) (pass : ArrivalsPass) (gave : List ℕ) (old new : AtIntake B) (given_pass : Option ArrivalsPass) (given : AtIntake B) : Type 0 where
-    pub way : (n : ℕ) (last : Clock) → n ≡ 0 → IsAtIntake locks n (by ∷ gave) last new
+  pub record GivesAt (locks : Locks B) (by : ℕ) (pass : ArrivalsPass) (gave : List ℕ) (last : Clock) (old new : AtIntake B) (given_pass : Option ArrivalsPass) (given : AtIntake B) : Type 0 where
+    pub way : (n : ℕ) → n ≡ 0 → IsAtIntake locks n (by ∷ gave) last new
     pub unfinished : is_finished new ≡ false
     pub same_pass : (p : ArrivalsPass) → pass_at new p ≡ Some p
     pub known : (seen : List ArrivalEntry) → arrivals_known new seen ≡ arrivals_known old seen
     pub known_is : (seen : List ArrivalEntry) → arrivals_known old seen ≡ sent (unstamped seen)
     pub posts : posts_of new ≡ posts_of old
-    pub given_way : (last : Clock) (gave : List ℕ) → IsAtIntake locks by gave last given
+    pub given_way : (after : Clock) (gave : List ℕ) → IsAtIntake locks by gave after given
     pub given_there : given_pass ≡ pass_at given pass
     pub given_known : (seen : List ArrivalEntry) → seen ≡ [] → arrivals_known given seen ≡ []
     pub given_posts : posts_of given ≡ []
     pub given_unfinished : is_finished given ≡ false
 
   pub gives_at : (locks : Locks B) (number by : ℕ) (pass : ArrivalsPass) (gave : List ℕ) (last : Clock) (old new : AtIntake B) (given_pass : Option ArrivalsPass) (given : AtIntake B) → number ≡ 0 → (Contains (number ∷ gave) by → ⊥)
-      → pass.table ≡ locks.arrivals → pass.mark ≡ Some tt → pass.by ≡ by → pass.seen ≡ [] → IsAtIntake locks number gave last old → HandsOut by pass old new given_pass given → GivesAt locks by pass gave old new given_pass given
+      → pass.table ≡ locks.arrivals → pass.mark ≡ Some tt → pass.by ≡ by → pass.seen ≡ [] → IsAtIntake locks number gave last old → HandsOut by pass old new given_pass given → GivesAt locks by pass gave last old new given_pass given
   gives_at locks number by pass gave last at.Nothing new given_pass given first fresh at_table marked of_by nothing way hands =
-      subst (λ (n : AtIntake B). GivesAt locks by pass gave at.Nothing n given_pass given) (sym hands.2)
-      (subst (λ (n : AtIntake B). GivesAt locks by pass gave at.Nothing at.Nothing given_pass n) (sym hands.1) (record {
-        way = λ n after zero. way;
+      subst (λ (n : AtIntake B). GivesAt locks by pass gave last at.Nothing n given_pass given) (sym hands.2)
+      (subst (λ (n : AtIntake B). GivesAt locks by pass gave last at.Nothing at.Nothing given_pass n) (sym hands.1) (record {
+        way = λ n zero. way;
         unfinished = refl;
         same_pass = λ p. refl;
         known = λ seen. refl;
@@ -174,9 +189,9 @@ module _ {B : Type 0} where
       }))
   gives_at locks number by pass gave last (at.Sends outbox) new given_pass given first fresh at_table marked of_by nothing way hands = absurd (way.apart first)
   gives_at locks number by pass gave last (at.Takes inbox) new given_pass given first fresh at_table marked of_by nothing way hands =
-      subst (λ (n : AtIntake B). GivesAt locks by pass gave (at.Takes inbox) n given_pass given) (sym hands.takes)
-      (subst (λ (n : AtIntake B). GivesAt locks by pass gave (at.Takes inbox) (at.Takes hands.after) given_pass n) (sym hands.sends) (record {
-        way = λ n after zero. record {
+      subst (λ (n : AtIntake B). GivesAt locks by pass gave last (at.Takes inbox) n given_pass given) (sym hands.takes)
+      (subst (λ (n : AtIntake B). GivesAt locks by pass gave last (at.Takes inbox) (at.Takes hands.after) given_pass n) (sym hands.sends) (record {
+        way = λ n zero. record {
           intake = way.intake ∙ ap (λ z. Some z) (sym (ap (λ t. t.intake) hands.admits.taker));
           number = zero;
           gave = λ b there. (elim (Contains-append_cases inbox.taker.made (by ∷ []) b (subst (λ (ns : List ℕ). Contains ns b) (ap (λ t. t.made) hands.admits.taker) there)) [
@@ -187,7 +202,7 @@ module _ {B : Type 0} where
             ])
           ]);
           own = admitted locks.arrivals by pass inbox hands.after way.own hands.admits (λ there. fresh (has_later number gave by (way.gave by there))) at_table marked of_by nothing;
-          couriers = admitted_couriers by pass inbox hands.after way.couriers hands.admits;
+          couriers = admitted_passes (last.stamp + 1) by pass inbox hands.after way.couriers hands.admits nothing;
         };
         unfinished = refl;
         same_pass = λ p. refl;
@@ -243,7 +258,10 @@ module _ {B : Type 0} where
       number = zero;
       gave = λ b there. absurd (has_none b (subst (λ (ns : List ℕ). Contains ns b) (ap (λ t. t.made) opens.taker) there));
       own = empty_inbox locks.arrivals opens.inbox.taker.intake opens.inbox opens.taker opens.empty;
-      couriers = λ b there. absurd (has_none b (subst (λ (ns : List ℕ). Contains ns b) (ap (λ t. t.made) opens.taker) there));
+      couriers = record {
+        there = λ b there. absurd (has_none b (subst (λ (ns : List ℕ). Contains ns b) (ap (λ t. t.made) opens.taker) there));
+        below = subst (λ (cs : List (Courier B)). AllByRecursion (IsBelow (last.stamp + 1)) cs) (sym opens.empty.couriers) tt;
+      };
     };
     unfinished = refl;
     same_pass = λ p. refl;

@@ -1,6 +1,6 @@
 -- What a compositor takes through one pass.
 use Rattle.std.proofs.Common.{◌≡◌, ℕ, ◌<◌, ◌≤◌, List, [], ◌++◌, inl, inr, Some, ap, ◌∙◌, sym, refl, subst, arith}
-use Rattle.std.specs.Prelude.{Contains, Err, IfErr, IfOk, Ok, OnOk, Result, is_none, map}
+use Rattle.std.specs.Prelude.{Contains, Err, IfErr, IfOk, Ok, Result, is_none, map}
 use Rattle.std.proofs.Math.Nat.{le-max_left}
 use Rattle.std.proofs.lemmas.List.{append-nil, append_assoc}
 use Rattle.sf_calls.specs.Calling.{Made as Does}
@@ -20,12 +20,14 @@ use Rattle.sf_live_seats.specs.declared.clock.Clock.{Clock}
 use Rattle.sf_live_seats.specs.declared.seats.Seats.{Seats}
 use Rattle.sf_live_seats.specs.Arriving.{ArrivalCalls, ArrivalEntry, ArrivalsPass, Arrived, Arriving}
 use Rattle.sf_live_seats.specs.Calls.{TookOne}
-use Rattle.sf_live_seats.specs.Moves.{BringsIn, ChangesArrivals, Takes}
+use Rattle.sf_live_seats.specs.Moves.{BringsIn, ChangesArrivals, HasBrought, Takes}
+use Rattle.sf_live_seats.specs.declared.at_intake.AtIntake.{AtIntake}
 use Rattle.sf_live_seats.specs.declared.at_intake.AtIntake.TheVariants as at
 use Rattle.sf_live_seats.specs.declared.inbox.Inbox.{Inbox}
 use Rattle.sf_live_seats.specs.declared.locks.Locks.{Locks}
 use Rattle.sf_live_seats.specs.Inboxes.{HasCouriers, IsInbox, IsLater}
 use Rattle.sf_live_seats.specs.Seats.{AreSeats, HasTaker, IsAtIntake, IsInOrder, arrivals_known, calls_made, moments_of, pass_at, post_moment, posts_of, sent_in, view_of}
+use Rattle.sf_live_seats.proofs.IntakeArrivals.{below_more}
 use Rattle.sf_live_seats.proofs.IntakeHands.{first_known, first_pass_at, way_later}
 use Rattle.sf_live_seats.proofs.CallOrder.{later_same}
 use Rattle.sf_live_seats.proofs.CallsOfOthers.{before_newest, goes_unstamped, sent_goes}
@@ -201,10 +203,10 @@ module _ {B : Type 0} (buffers : TableId) (locks : Locks B) (seats : Seats B) (o
   abbrev brought_seats : Seats B
   brought_seats = record seats { intake = at.Takes new; last = last }
 
-  pub taker_there : HasTaker locks seats.by seats.arrivals.gave old
+  pub taker_there : HasTaker locks seats.by seats.arrivals.gave seats.last old
   taker_there = subst (λ at_intake. IsAtIntake locks seats.by seats.arrivals.gave seats.last at_intake) is own.way
 
-  pub brought_own : IsInbox locks.arrivals new → HasCouriers new → new.taker.intake ≡ old.taker.intake → new.taker.made ≡ old.taker.made → IsLater seats.last last → AreSeats buffers locks brought_seats
+  pub brought_own : IsInbox locks.arrivals new → HasCouriers last new → new.taker.intake ≡ old.taker.intake → new.taker.made ≡ old.taker.made → IsLater seats.last last → AreSeats buffers locks brought_seats
   brought_own inbox couriers intake made later = record {
     queues = own.queues;
     own_arrivals = own.own_arrivals;
@@ -240,7 +242,7 @@ module _ {B : Type 0} (buffers : TableId) (locks : Locks B) (seats : Seats B) (o
 
   pub finished_own : IsLater seats.last last → AreSeats buffers locks finished_seats
   finished_own later =
-      let taker : HasTaker locks seats.by seats.arrivals.gave old = subst (λ at_intake. IsAtIntake locks seats.by seats.arrivals.gave seats.last at_intake) is own.way in
+      let taker : HasTaker locks seats.by seats.arrivals.gave seats.last old = subst (λ at_intake. IsAtIntake locks seats.by seats.arrivals.gave seats.last at_intake) is own.way in
       record {
         queues = own.queues;
         own_arrivals = own.own_arrivals;
@@ -262,6 +264,14 @@ module _ {B : Type 0} (buffers : TableId) (locks : Locks B) (seats : Seats B) (o
     posts = sym (ap posts_of is);
     known = λ seen. sym (ap (λ at_intake. arrivals_known at_intake seen) is);
   }
+
+-- what is below a stamp is below a greater one
+pub brought_below : {B : Type 0} (bound more : ℕ) (old new : AtIntake B) → bound ≤ more → HasBrought bound old new → HasBrought more old new
+brought_below bound more at.Nothing new up brought = tt
+brought_below bound more (at.Sends outbox) new up brought = tt
+brought_below bound more (at.Takes inbox) new up brought =
+    let all = brought.2 in (brought.0, brought.1, record { more = all.more; none = all.none; below = below_more bound more brought.0.couriers.items up all.below })
+brought_below bound more at.Finished new up brought = tt
 
 pub brings_none : {B : Type 0} (seats : Seats B) → BringsIn seats seats
 brings_none seats = record { same = refl; last = record { step = refl; stamp = omega arith }; posts = refl; known = λ seen. refl }

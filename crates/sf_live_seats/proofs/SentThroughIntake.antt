@@ -1,5 +1,5 @@
 -- What a caller sends through its sender.
-use Rattle.std.proofs.Common.{◌≡◌, ℕ, ◌+◌, ◌≤◌, ◌<◌, false, true, List, [], ◌∷◌, ◌++◌, inl, inr, length, Some, arith, ap, ◌∙◌, sym, refl, subst}
+use Rattle.std.proofs.Common.{◌≡◌, ℕ, ◌+◌, ◌≤◌, ◌<◌, List, [], ◌∷◌, ◌++◌, inl, inr, length, Some, arith, ap, ◌∙◌, sym, refl, subst}
 use Rattle.std.specs.Prelude.{◌⊎◌, Err, IfErr, IfOk, Ok, Result, Contains, is_none, map}
 use Rattle.std.proofs.lemmas.Bool.{false≢true}
 use Rattle.std.proofs.lemmas.List.{append-nil, map-append}

@@ -1,11 +1,12 @@
 -- What the first caller takes from an intake with, and how it puts what it took among the arrivals.
-use Rattle.std.specs.Prelude.{◌≡◌, ℕ, ◌+◌, ◌<◌, ◌≤◌, ◌==◌, Bool, false, Some}
+use Rattle.std.specs.Prelude.{◌≡◌, ℕ, ◌+◌, ◌<◌, ◌≤◌, ◌==◌, ◌⊎◌, Bool, false, Some}
 use Rattle.std.specs.Prelude.{List, [], ◌∷◌, ◌++◌, length, map, filter, option_to_list, Contains}
+use Rattle.std.specs.List.{AllByRecursion}
 use Rattle.std.specs.Vec.Iter.{into_iter_items}
 use Rattle.atomic_table.specs.Seated.{TableId}
 use Rattle.sf_calls.specs.Histories.{calls_by}
 use Rattle.sf_intake.specs.Posts.{Post, arrivals, numbered}
-use Rattle.sf_intake.specs.Views.{HasAllHeard, TakerView, making}
+use Rattle.sf_intake.specs.Views.{HasAllHeard, HasGrown, TakerView, making}
 use Rattle.sf_calls_stamped.specs.Stamps.{unstamped}
 use Rattle.sf_actor.specs.sf_surface.Tokens.{ReadLeaseOf}
 use Rattle.sf_intake.specs.sf_token.Arrivals.{sent}
@@ -45,6 +46,15 @@ pub record IsLater (before after : Clock) : Type 0 where
 pub record HasAll (taker : TakerView ReadLeaseOf) : Type 0 where
   pub given : taker.given ≡ arrivals 1 taker.taken
   pub heard : HasAllHeard taker
+
+-- a pop found the queue empty, which is counted, and all that was taken until then was given
+pub record HasEmptied (old new : TakerView ReadLeaseOf) : Type 0 where
+  pub counted : HasGrown old.empties new.empties
+  pub all : HasAll new
+
+-- the taker gave all until a pop found the queue empty, or 4,096 transactions more
+abbrev pub GaveMore : TakerView ReadLeaseOf → TakerView ReadLeaseOf → Type 0
+GaveMore old new = HasEmptied old new ⊎ (length new.given ≡ length old.given + 4096)
 
 module _ {B : Type 0} where
   abbrev pub is_courier : ℕ → Courier B → Bool
@@ -96,9 +106,24 @@ module _ {B : Type 0} where
     pub made : (by : ℕ) → Contains (map number_of inbox.couriers.items) by → Contains inbox.taker.made by
     pub count : inbox.senders ≡ length inbox.taker.made
 
-  -- each sender that was made has its pass here
-  abbrev pub HasCouriers : Inbox B → Type 0
-  HasCouriers inbox = (by : ℕ) → Contains inbox.taker.made by → Contains (map number_of inbox.couriers.items) by
+  -- what was put among the arrivals through the courier has stamps below this one
+  abbrev pub IsBelow : ℕ → Courier B → Type 0
+  IsBelow bound courier = (m : ℕ × ℕ) → Contains (sent_in (calls_by courier.by courier.pass.seen)) m → m.1 < bound
+
+  -- the senders of these numbers have their passes here, and what was put among the arrivals through passes has stamps below this one
+  pub record HasPasses (bound : ℕ) (made : List ℕ) (couriers : List (Courier B)) : Type 0 where
+    pub there : (by : ℕ) → Contains made by → Contains (map number_of couriers) by
+    pub below : AllByRecursion (IsBelow bound) couriers
+
+  -- each sender that was made has its pass here, and no stamp there is above that of the first caller's last call
+  abbrev pub HasCouriers : Clock → Inbox B → Type 0
+  HasCouriers last inbox = HasPasses (last.stamp + 1) inbox.taker.made inbox.couriers.items
+
+  -- What was sent was brought in: the taker gave more, and all that it gave was put among the arrivals, with stamps below this one.
+  pub record BringsAll (bound : ℕ) (old new : Inbox B) : Type 0 where
+    pub more : GaveMore old.taker new.taker
+    pub none : left_of new ≡ []
+    pub below : AllByRecursion (IsBelow bound) new.couriers.items
 
   -- an inbox without senders
   pub record IsEmpty (inbox : Inbox B) : Type 0 where

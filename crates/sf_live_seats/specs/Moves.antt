@@ -6,10 +6,13 @@ use Rattle.sf_calls_stamped.specs.Stamps.{newest_stamp}
 use Rattle.sf_actor.specs.sf_surface.Tokens.{ReadLeaseOf}
 use Rattle.sf_intake.specs.sf_token.Pending.{Arrival}
 use Rattle.sf_actor.specs.Known.{AreAmong, ArriveWithout, CountsRise}
+use Rattle.sf_live_seats.specs.declared.at_intake.AtIntake.{AtIntake}
+use Rattle.sf_live_seats.specs.declared.at_intake.AtIntake.TheVariants as at
+use Rattle.sf_live_seats.specs.declared.inbox.Inbox.{Inbox}
 use Rattle.sf_live_seats.specs.declared.seats.Seats.{Seats}
 use Rattle.sf_live_seats.specs.Arriving.{ArrivalEntry}
 use Rattle.sf_live_seats.specs.Calls.{TookOne}
-use Rattle.sf_live_seats.specs.Inboxes.{IsLater}
+use Rattle.sf_live_seats.specs.Inboxes.{BringsAll, IsLater}
 use Rattle.sf_live_seats.specs.Seats.{QueuePass, arrivals_known, moments_of, posts_of, view_of}
 
 module _ {B : Type 0} where
@@ -67,3 +70,10 @@ module _ {B : Type 0} where
     pub last : IsLater old.last new.last
     pub posts : posts_of new.intake ≡ posts_of old.intake
     pub known : (seen : List ArrivalEntry) → arrivals_known new.intake seen ≡ arrivals_known old.intake seen
+
+  -- What was sent through an intake was brought in, with stamps below this one, where the caller takes from it.
+  abbrev pub HasBrought : ℕ → AtIntake B → AtIntake B → Type 0
+  HasBrought bound at.Nothing new = Unit {0}
+  HasBrought bound (at.Sends outbox) new = Unit {0}
+  HasBrought bound (at.Takes inbox) new = (after : Inbox B) × (new ≡ at.Takes after) × BringsAll bound inbox after
+  HasBrought bound at.Finished new = Unit {0}

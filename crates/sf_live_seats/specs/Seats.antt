@@ -144,17 +144,17 @@ module _ {B : Type 0} where
     pub ready : IsReady last outbox
 
   -- the first caller takes from the intake, and has the pass of each sender that it made, to whose caller it gave one
-  pub record HasTaker (locks : Locks B) (by : ℕ) (all : List ℕ) (inbox : Inbox B) : Type 0 where
+  pub record HasTaker (locks : Locks B) (by : ℕ) (all : List ℕ) (last : Clock) (inbox : Inbox B) : Type 0 where
     pub intake : locks.intake ≡ Some inbox.taker.intake
     pub number : by ≡ 0
     pub gave : (by : ℕ) → Contains inbox.taker.made by → Contains all by
     pub own : IsInbox locks.arrivals inbox
-    pub couriers : HasCouriers inbox
+    pub couriers : HasCouriers last inbox
 
   abbrev pub IsAtIntake : Locks B → ℕ → List ℕ → Clock → AtIntake B → Type 0
   IsAtIntake locks by gave last at.Nothing = locks.intake ≡ None
   IsAtIntake locks by gave last (at.Sends outbox) = HasSender locks by last outbox
-  IsAtIntake locks by gave last (at.Takes inbox) = HasTaker locks by gave inbox
+  IsAtIntake locks by gave last (at.Takes inbox) = HasTaker locks by gave last inbox
   IsAtIntake locks by gave last at.Finished = (by ≡ 0) × (tells_of locks ≡ false)
 
   -- nothing is taken from the intake any more

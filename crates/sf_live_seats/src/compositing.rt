@@ -92,7 +92,7 @@ fn give_back_through<B: TableName>(
 }
 
 impl<B: TableName> Seats<B> {
-    ghost use Rattle.std.specs.Prelude.{◌≡◌, [], false, true, IfErr, IfOk, IsErr, None, OnErr, Some, map};
+    ghost use Rattle.std.specs.Prelude.{◌≡◌, ◌+◌, [], false, true, IfErr, IfOk, IsErr, None, OnErr, OnOk, Some, map};
     ghost use Rattle.sf_commit.specs.Handlers.{Decides, Stops, last_of};
     ghost use Rattle.sf_commit.specs.Lending.{ends_of};
     ghost use Rattle.sf_commit.specs.OnLayers.{at_hand};
@@ -101,7 +101,7 @@ impl<B: TableName> Seats<B> {
     ghost use Rattle.sf_live_seats.specs.Observers.{SeatGoesOn};
     ghost use Rattle.sf_actor.specs.Desks.{IsAsBefore};
     ghost use Rattle.sf_actor.specs.Tries.{Sees};
-    ghost use Rattle.sf_live_seats.specs.Moves.{BringsIn, ChangesArrivals, Stays, Takes};
+    ghost use Rattle.sf_live_seats.specs.Moves.{BringsIn, ChangesArrivals, HasBrought, Stays, Takes};
     ghost use Rattle.sf_live_seats.specs.Seats.{AreSeats, home_of, view_of};
 
     /// Looks at all timelines.
@@ -120,6 +120,7 @@ impl<B: TableName> Seats<B> {
         requires own { AreSeats B.table locks.now self.old }
         ensures own { AreSeats B.table locks.now self.new }
         ensures brings { BringsIn self.old self.new }
+        ensures brought { OnOk result (HasBrought (self.new.last.stamp + 1) self.old.intake self.new.intake) }
     {
         let AtIntake::Takes(inbox) = &mut self.intake else {
             return Ok(());
@@ -132,8 +133,8 @@ impl<B: TableName> Seats<B> {
     }
 
     /// Takes the transactions that arrived, and waits for its turn under the lock: the first caller's
-    /// right, whose number is 0. What was sent through the intake is brought in first; no clause says
-    /// so. Out of memory leaves them.
+    /// right, whose number is 0. What was sent through the intake is brought in first, under stamps
+    /// below that of the take. Out of memory leaves them.
     pub fn take<R: Wait>(
         &mut self,
         locks: &Locks<B>,
@@ -144,6 +145,7 @@ impl<B: TableName> Seats<B> {
         ensures own { AreSeats B.table locks.now self.new }
         ensures changes { ChangesArrivals self.old self.new }
         ensures took { IfOk result (λ list. Takes self.old self.new list.items) }
+        ensures brought { OnOk result (HasBrought self.new.last.stamp self.old.intake self.new.intake) }
         ensures stays { IfErr result (λ _. IsAsBefore (view_of self.old) (view_of self.new)) }
     {
         self.bring_in(locks, rt)?;

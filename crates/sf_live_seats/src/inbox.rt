@@ -4,7 +4,7 @@ ghost use Rattle.std.specs.Prelude.{◌≡◌, ◌++◌, ◌<◌, [], true, fals
 ghost use Rattle.std.specs.List.{AllByRecursion, AllZip, position};
 ghost use Rattle.std.specs.Vec.Iter.{into_iter_items};
 ghost use Rattle.sf_intake.specs.Views.{new_sender};
-ghost use Rattle.sf_live_seats.specs.Inboxes.{Admits, Carries, HasAll, HasCouriers, Hears, IsAbleTo, IsEmpty, IsInbox, IsLater, IsSameInbox, is_courier, left_of};
+ghost use Rattle.sf_live_seats.specs.Inboxes.{Admits, Carries, GaveMore, HasAll, HasCouriers, Hears, IsAbleTo, IsEmpty, IsInbox, IsLater, IsSameInbox, is_courier, left_of};
 ghost use Rattle.sf_live_seats.specs.Reuniting.{Reunites};
 ghost use Rattle.sf_live_seats.specs.Seats.{AreWhole, IsHeard, MaySend};
 
@@ -142,9 +142,9 @@ impl<B: TableName> Inbox<B> {
         last: &mut Clock,
     ) -> Result<bool, NoMemory>
         requires own { IsInbox lock.now self.old }
-        requires couriers { HasCouriers self.old }
+        requires couriers { HasCouriers last.old self.old }
         ensures own { IsInbox lock.now self.new }
-        ensures couriers { HasCouriers self.new }
+        ensures couriers { HasCouriers last.new self.new }
         ensures taker { self.new.taker ≡ self.old.taker }
         ensures last { IsLater last.old last.new }
         ensures fewer { IfOk result (λ more. more ≡ true → length (left_of self.new) < length (left_of self.old)) }
@@ -188,9 +188,9 @@ impl<B: TableName> Inbox<B> {
         last: &mut Clock,
     ) -> Result<(), NoMemory>
         requires own { IsInbox lock.now self.old }
-        requires couriers { HasCouriers self.old }
+        requires couriers { HasCouriers last.old self.old }
         ensures own { IsInbox lock.now self.new }
-        ensures couriers { HasCouriers self.new }
+        ensures couriers { HasCouriers last.new self.new }
         ensures taker { self.new.taker ≡ self.old.taker }
         ensures last { IsLater last.old last.new }
         ensures none { OnOk result (left_of self.new ≡ []) }
@@ -210,13 +210,14 @@ impl<B: TableName> Inbox<B> {
         last: &mut Clock,
     ) -> Result<bool, NoMemory>
         requires own { IsInbox lock.now self.old }
-        requires couriers { HasCouriers self.old }
+        requires couriers { HasCouriers last.old self.old }
         requires intake { self.old.taker.intake ≡ intake.now }
         ensures own { IsInbox lock.now self.new }
-        ensures couriers { HasCouriers self.new }
+        ensures couriers { HasCouriers last.new self.new }
         ensures same { IsSameInbox self.old self.new }
         ensures last { IsLater last.old last.new }
         ensures none { OnOk result (left_of self.new ≡ []) }
+        ensures more { OnOk result (GaveMore self.old.taker self.new.taker) }
         ensures dry { IfOk result (λ full. full ≡ false → HasAll self.new.taker) }
     {
         self.forward_left(rt, lock, last)?;
@@ -236,10 +237,10 @@ impl<B: TableName> Inbox<B> {
         last: &mut Clock,
     ) -> Result<(), NoMemory>
         requires own { IsInbox lock.now self.old }
-        requires couriers { HasCouriers self.old }
+        requires couriers { HasCouriers last.old self.old }
         requires intake { self.old.taker.intake ≡ intake.now }
         ensures own { IsInbox lock.now self.new }
-        ensures couriers { HasCouriers self.new }
+        ensures couriers { HasCouriers last.new self.new }
         ensures same { IsSameInbox self.old self.new }
         ensures last { IsLater last.old last.new }
         ensures none { OnOk result (left_of self.new ≡ []) }
@@ -360,7 +361,7 @@ impl<B: TableName> Inbox<B> {
         ends: &mut [Seats<B>],
     ) -> Result<(), NoMemory>
         requires own { IsInbox locks.now.arrivals self.old }
-        requires couriers { HasCouriers self.old }
+        requires couriers { HasCouriers last.old self.old }
         requires same { self.old.taker.intake ≡ intake.now }
         requires intake { locks.now.intake ≡ Some intake.now }
         requires theirs { AllByRecursion (MaySend B.table locks.now) ends.old }

@@ -1,8 +1,7 @@
 //! What the threads of a run share by reference: each queue under a lock, the arrivals, the
 //! timelines. A run opens them with the first seats, and closes them into a desk of one thread.
-ghost use Rattle.std.specs.Prelude.{◌≡◌, ℕ, true, [], ◌∷◌, Contains, IfOk};
+ghost use Rattle.std.specs.Prelude.{◌≡◌, ℕ, [], ◌∷◌, Contains, IfOk};
 ghost use Rattle.std.specs.List.{AllByRecursion, AllZip, list_any, position};
-ghost use Rattle.sf_times.specs.Seats.{IsAlone};
 ghost use Rattle.sf_actor.specs.Desks.{has_queue, known_of};
 ghost use Rattle.sf_actor.specs.Known.{GoesOn};
 ghost use Rattle.sf_actor.specs.Plain.{home_of as plain_home, view_of as plain_view};
@@ -23,10 +22,9 @@ use sf_actor::{PlainDesk, QueueObject, ReadLease};
 use sf_base::{NoMemory, QueueId};
 use sf_calls::CallLock;
 use sf_calls_stamped::Stamped;
-use sf_intake::{Arrivals, Intake};
-use sf_times::{TimeSeat, Timelines};
-use sf_turns::sf_picture::Painted;
-use sf_turns::{TableName, TurnSeat};
+use sf_intake::Intake;
+use sf_times::Timelines;
+use sf_turns::TableName;
 use std::alloc::Global;
 use std::marker::Brand;
 use std::snapshot::Snapshot;
@@ -150,27 +148,27 @@ impl<B: TableName> Locks<B> {
         is_there(&self.queues, queue)
     }
 
-    /// What threads are to share, and the first caller's seats, with the number 0. Nothing was
-    /// called yet. Where a sender is to learn no place, transactions come through an intake. Its
-    /// only error is out of memory.
+    /// What threads are to share, of a desk at which nothing was called yet, and the first caller's
+    /// seats, with the number 0. Where a sender is to learn no place, transactions come through an
+    /// intake. Its only error is out of memory.
     pub fn open(
         alloc: Global,
-        queues: Vec<QueueObject<B>>,
-        arrivals: Arrivals<ReadLease<B>, Brand>,
-        table: Timelines,
-        times: TimeSeat,
-        turns: TurnSeat<Painted>,
+        desk: PlainDesk<B>,
         tells: bool,
     ) -> Result<(Locks<B>, FirstSeats<B>), NoMemory>
-        requires no_calls { AllByRecursion HasNoCalls queues.items }
-        requires none_arrived { arrivals ≡ [] }
-        requires own_times { times.table ≡ table }
-        requires alone { IsAlone times.knows }
-        requires own_turns { turns.table ≡ B.table }
-        requires first { (turns.is_first ≡ true) × (turns.out ≡ 0) }
+        requires no_calls { AllByRecursion HasNoCalls desk.queues }
+        requires none_arrived { desk.arrivals ≡ [] }
         ensures first { IfOk result (λ opened. IsFirst B.table opened.0 opened.1) }
-        ensures opened { IfOk result (λ opened. Opens tells queues.items times turns opened.0 opened.1) }
+        ensures opened { IfOk result (λ opened. Opens tells desk.queues desk.times desk.turns opened.0 opened.1) }
     {
+        let PlainDesk {
+            queues,
+            arrivals,
+            table,
+            times,
+            turns,
+            tells: _,
+        } = desk;
         let (queues, passes) = open_queues(alloc, queues)?;
         let Ok((lock, pass)) = CallLock::open(alloc, StampedArrivals::new(alloc, arrivals), 0)
         else {

@@ -1,10 +1,12 @@
-use Rattle.std.proofs.Common.{◌<◌, ◌++◌, length, arith, ap, ◌∙◌, sym, refl, subst}
+use Rattle.std.proofs.Common.{◌<◌, ◌+◌, ◌++◌, length, arith, ap, ◌∙◌, sym, refl, subst}
 use Rattle.std.specs.Prelude.{option_to_list}
 use Rattle.std.specs.Vec.Iter.{into_iter_items}
 use Rattle.std.proofs.lemmas.Bool.Decides.{nat_tests}
 use Rattle.sf_live_seats.specs.declared.inbox.Inbox.{Inbox}
-use Rattle.sf_live_seats.specs.Inboxes.{HasAll}
-use Rattle.sf_live_seats.proofs.IntakeArrivals.{has_all, later_on, left_new, popped_inbox, same_couriers, same_inbox, same_on, same_popped, same_taken, taken_inbox}
+use Rattle.sf_intake.specs.Views.{TakerView}
+use Rattle.sf_actor.specs.sf_surface.Tokens.{ReadLeaseOf}
+use Rattle.sf_live_seats.specs.Inboxes.{GaveMore, HasAll}
+use Rattle.sf_live_seats.proofs.IntakeArrivals.{gave_more, has_all, later_on, left_new, popped_inbox, same_inbox, same_passes, same_on, same_popped, same_taken, taken_inbox}
 use Rattle.sf_live_seats.proofs.inbox.Inbox.bring.Goals as goal
 
 pub returns-in_err-forward_left-clause-same : goal.returns-in_err-forward_left-clause-same
@@ -30,8 +32,7 @@ returns-in_err-list-clause-same g c =
 pub returns-in_err-list-clause-couriers : goal.returns-in_err-list-clause-couriers
 returns-in_err-list-clause-couriers g c =
     let mid = c.forward_left.new.self in
-    let new : Inbox g.row.B.Denot = record { taker = c.take.new.self; senders = mid.senders; couriers = mid.couriers; held = mid.held; rest = mid.rest } in
-    same_couriers mid new c.forward_left.ensures.couriers c.in_err-list.ensures.err.same.made refl
+    same_passes (c.forward_left.new.last.stamp + 1) mid.taker.made c.take.new.self.made mid.couriers.items mid.couriers.items c.forward_left.ensures.couriers c.in_err-list.ensures.err.same.made refl
 
 pub forward_left-requires-2 : goal.forward_left-requires-2
 forward_left-requires-2 g c =
@@ -41,7 +42,8 @@ forward_left-requires-2 g c =
     record {
       own = taken_inbox c.args.lock.now _ mid new c.in_ok-list.list.items c.forward_left.ensures.own c.in_ok-forward_left.ensures.none c.in_ok-list.ensures.ok
           (ap (λ xs. option_to_list mid.held ++ xs) c.into_iter.ensures.rest ∙ left_new mid.held (into_iter_items mid.rest) c.in_ok-list.list.items c.in_ok-forward_left.ensures.none) refl refl;
-      couriers = same_couriers mid new c.forward_left.ensures.couriers c.in_ok-list.ensures.ok.made refl;
+      couriers =
+          same_passes (c.forward_left.new.last.stamp + 1) mid.taker.made c.take.new.self.made mid.couriers.items mid.couriers.items c.forward_left.ensures.couriers c.in_ok-list.ensures.ok.made refl;
     }
 
 pub returns-in_err-forward_left-2-clause-same : goal.returns-in_err-forward_left-2-clause-same
@@ -67,6 +69,13 @@ returns-clause-same g c =
 
 pub returns-clause-last : goal.returns-clause-last
 returns-clause-last g c = later_on c.args.last.now c.forward_left.new.last c.forward_left-2.new.last c.forward_left.ensures.last c.forward_left-2.ensures.last
+
+pub returns-clause-more : goal.returns-clause-more
+returns-clause-more g c =
+    let old = c.args.self.now in
+    subst (GaveMore old.taker) (sym c.forward_left-2.ensures.taker)
+    (subst (λ (t : TakerView ReadLeaseOf). GaveMore t c.take.new.self) c.forward_left.ensures.taker
+    (gave_more _ c.forward_left.new.self.taker c.take.new.self c.in_ok-list.list.items c.in_ok-list.ensures.ok c.in_ok-list.ensures.short))
 
 pub returns-clause-dry : goal.returns-clause-dry
 returns-clause-dry g c = λ not_full.

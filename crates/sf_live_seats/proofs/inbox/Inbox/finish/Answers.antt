@@ -1,17 +1,17 @@
-use Rattle.std.proofs.Common.{List, ap, ◌∙◌, sym, subst}
-use Rattle.std.specs.Prelude.{map}
+use Rattle.std.proofs.Common.{List, ◌+◌, ap, ◌∙◌, sym, subst}
 use Rattle.std.specs.List.{AllByRecursion}
 use Rattle.sf_live_seats.specs.declared.seats.Seats.{Seats}
-use Rattle.sf_live_seats.specs.Inboxes.{number_of}
 use Rattle.sf_live_seats.specs.Seats.{IsHeard}
-use Rattle.sf_live_seats.proofs.IntakeArrivals.{hears_inbox, same_couriers}
+use Rattle.sf_live_seats.proofs.IntakeArrivals.{hears_inbox, same_passes}
 use Rattle.sf_live_seats.proofs.ReunitedPass.{all_heard}
 use Rattle.sf_live_seats.proofs.inbox.Inbox.finish.Goals as goal
 
 pub drain-requires : goal.drain-requires
 drain-requires g c = record {
   own = hears_inbox c.args.locks.now.arrivals c.args.self.now c.hear_each.new.self c.requires.own c.hear_each.ensures.hears;
-  couriers = same_couriers c.args.self.now c.hear_each.new.self c.requires.couriers (ap (λ t. t.made) c.hear_each.ensures.hears.taker) (ap (λ cs. map number_of cs.items) c.hear_each.ensures.hears.couriers);
+  couriers =
+      same_passes (c.args.last.now.stamp + 1) c.args.self.now.taker.made c.hear_each.new.self.taker.made c.args.self.now.couriers.items c.hear_each.new.self.couriers.items c.requires.couriers
+      (ap (λ t. t.made) c.hear_each.ensures.hears.taker) (ap (λ cs. cs.items) c.hear_each.ensures.hears.couriers);
   intake = ap (λ t. t.intake) c.hear_each.ensures.hears.taker ∙ c.requires.same;
 }
 

@@ -1,4 +1,4 @@
-use Rattle.std.proofs.Common.{◌≡◌, ◌≤◌, ◌∷◌, ◌++◌, List, Some, length, set, arith, ap, ◌∙◌, sym, refl, subst}
+use Rattle.std.proofs.Common.{◌≡◌, ◌+◌, ◌≤◌, ◌∷◌, ◌++◌, List, Some, length, set, arith, ap, ◌∙◌, sym, refl, subst}
 use Rattle.std.specs.Prelude.{option_to_list}
 use Rattle.std.specs.List.{position}
 use Rattle.std.specs.Vec.{with_item}
@@ -10,8 +10,8 @@ use Rattle.sf_actor.specs.sf_surface.Tokens.{ReadLeaseOf}
 use Rattle.sf_intake.specs.sf_token.Pending.{Arrival}
 use Rattle.sf_live_seats.specs.declared.inbox.Courier.{Courier}
 use Rattle.sf_live_seats.specs.declared.inbox.Inbox.{Inbox}
-use Rattle.sf_live_seats.specs.Inboxes.{IsAbleTo, is_courier, left_of}
-use Rattle.sf_live_seats.proofs.IntakeArrivals.{courier_able, courier_low, forwards, left_courier, left_gone, left_one, put_couriers, stays_inbox}
+use Rattle.sf_live_seats.specs.Inboxes.{IsAbleTo, IsBelow, is_courier, left_of}
+use Rattle.sf_live_seats.proofs.IntakeArrivals.{carries_below, courier_able, courier_low, forwards, left_courier, left_gone, left_one, put_courier, stays_inbox}
 use Rattle.sf_live_seats.proofs.inbox.Inbox.forward.Goals as goal
 
 pub returns-in_default-clause-own : goal.returns-in_default-clause-own
@@ -33,7 +33,7 @@ unreachable-requires g c =
     let rest = into_iter_items c.next_left.new.rest in
     let left : left_of old ≡ oldest ∷ rest =
     c.next_left.ensures.left ∙ sym (ap (λ (a : Arrival ReadLeaseOf). a ∷ rest) c.oldest.view_is ∙ ap (λ result. option_to_list result ++ rest) (sym c.in-Some.is)) in
-    left_courier c.args.lock.now old oldest rest c.requires.own c.requires.couriers left
+    left_courier c.args.lock.now old oldest rest c.requires.own c.requires.couriers.there left
     (ap (position (is_courier by)) (sym c.deref.ensures.value) ∙ sym c.place_of.ensures ∙ c.in_default-place_of.is)
 
 pub index_mut-requires : goal.index_mut-requires
@@ -83,9 +83,11 @@ returns-in-Ok-clause-own g c =
 pub returns-in-Ok-clause-couriers : goal.returns-in-Ok-clause-couriers
 returns-in-Ok-clause-couriers g c =
     let old = c.args.self.now in
-    let place = c.in-Some-place_of.place in
-    let new : Inbox g.row.B.Denot = record { taker = old.taker; senders = old.senders; couriers = with_item old.couriers place c.carry.new.self; held = c.next_left.new.held; rest = c.next_left.new.rest } in
-    put_couriers old new place c.index_mut.result.now c.carry.new.self c.requires.couriers c.index_mut.ensures.value c.in-Ok.ensures.carried.by refl refl
+    let before = c.args.last.now.stamp in
+    let low : before ≤ c.max-stamp.result = (let b = c.max-stamp.ensures in let d = le-max_left before c.newest.result in omega (arith, b, d)) in
+    let above = c.in-Ok.ensures.carried.above in
+    put_courier (before + 1) (c.in-Ok.given + 1) old.taker.made old.couriers.items c.in-Some-place_of.place c.index_mut.result.now c.carry.new.self c.requires.couriers c.index_mut.ensures.value c.in-Ok.ensures.carried.by
+    (omega (arith, low, above)) (carries_below (before + 1) c.index_mut.result.now c.carry.new.self c.max-stamp.result c.in-Ok.given _ _ c.in-Ok.ensures.carried (omega (arith, low)))
 
 pub returns-in-Ok-clause-last : goal.returns-in-Ok-clause-last
 returns-in-Ok-clause-last g c = record {
@@ -117,7 +119,7 @@ returns-in-Err-clause-own g c =
 pub returns-in-Err-clause-couriers : goal.returns-in-Err-clause-couriers
 returns-in-Err-clause-couriers g c =
     let old = c.args.self.now in
-    let place = c.in-Some-place_of.place in
-    let oldest : Arrival ReadLeaseOf = record { number = c.oldest.inside.number; actor = c.oldest.inside.actor; step = c.oldest.inside.step; txn = c.in-Err.txn } in
-    let new : Inbox g.row.B.Denot = record { taker = old.taker; senders = old.senders; couriers = with_item old.couriers place c.carry.new.self; held = Some oldest; rest = c.next_left.new.rest } in
-    put_couriers old new place c.index_mut.result.now c.carry.new.self c.requires.couriers c.index_mut.ensures.value (ap (λ (one : Courier g.row.B.Denot). one.by) c.in-Err.ensures.back.1) refl refl
+    let bound = c.args.last.now.stamp + 1 in
+    let same = c.in-Err.ensures.back.1 in
+    put_courier bound bound old.taker.made old.couriers.items c.in-Some-place_of.place c.index_mut.result.now c.carry.new.self c.requires.couriers c.index_mut.ensures.value
+    (ap (λ (one : Courier g.row.B.Denot). one.by) same) (omega arith) (λ below. subst (IsBelow bound) (sym same) below)

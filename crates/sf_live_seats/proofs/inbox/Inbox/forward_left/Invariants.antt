@@ -5,7 +5,7 @@ use Rattle.sf_live_seats.proofs.inbox.Inbox.forward_left.Given as goal
 abbrev pub invariant-loop : goal.invariant-loop
 invariant-loop g l = record {
   own : IsInbox l.fn.lock l.self;
-  couriers : HasCouriers l.self;
+  couriers : HasCouriers l.last l.self;
   taker : l.self.taker ≡ l.fn.self.taker;
   last : IsLater l.fn.last l.last;
 }

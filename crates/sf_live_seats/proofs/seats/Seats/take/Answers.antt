@@ -1,10 +1,10 @@
-use Rattle.std.proofs.Common.{◌≡◌, Some, ◌∙◌, ap, subst, sym}
+use Rattle.std.proofs.Common.{◌≡◌, ◌+◌, Some, arith, ◌∙◌, ap, subst, sym}
 use Rattle.std.specs.Prelude.{IfErr, IfOk}
 use Rattle.sf_live_seats.specs.declared.seats.Seats.{Seats}
 use Rattle.sf_live_seats.specs.Arriving.{ArrivalsPass}
 use Rattle.sf_live_seats.specs.Calls.{TookOne}
 use Rattle.sf_live_seats.proofs.ReunitedPass.{some_same}
-use Rattle.sf_live_seats.proofs.PassTake.{PassTakes, as_before_on, brings_as_before, brings_change, changes_on, if_both, if_not, if_refused, takes_on, there_first, waiting_changes, waiting_own, waiting_stays, waiting_took}
+use Rattle.sf_live_seats.proofs.PassTake.{PassTakes, as_before_on, brings_as_before, brings_change, brought_below, changes_on, if_both, if_not, if_refused, takes_on, there_first, waiting_changes, waiting_own, waiting_stays, waiting_took}
 use Rattle.sf_live_seats.proofs.seats.Seats.take.Goals as goal
 
 pub returns-in_err-bring_in-clause-changes : goal.returns-in_err-bring_in-clause-changes
@@ -63,3 +63,11 @@ returns-clause-stays g c =
     (λ fault stays. as_before_on c.args.self.now seats (record seats { arrivals = c.of.result; pass = Some c.take_one-taken.new.pass; last = c.take_one-taken.new.last }) c.bring_in.ensures.brings
     (waiting_stays g.B.TableName.table c.args.locks.now seats c.take_one-taken.new.pass c.of.result c.take_one-taken.new.last c.bring_in.ensures.own first here c.of.ensures stays))
     (subst (λ (p : ArrivalsPass). IfErr c.take_one-taken.result (λ fault. c.take_one-taken.new.pass ≡ p)) is made.stays)
+
+pub returns-clause-brought : goal.returns-clause-brought
+returns-clause-brought g c =
+    let seats = c.bring_in.new.self in
+    let after = c.take_one-taken.new.last.stamp in
+    let newest = c.take_one-taken.ensures.newest in
+    if_both _ _ _ c.take_one-taken.result
+    (λ list rose also. brought_below (seats.last.stamp + 1) after c.args.self.now.intake seats.intake (let up = rose.1 in omega (arith, up)) c.in_ok-bring_in.ensures.brought) newest newest
