@@ -1,17 +1,14 @@
 //! How a live run begins: the scene's actors, its queues, arrivals and timelines under locks, and
 //! the first seats, which are the compositor's.
 ghost use Rattle.std.specs.Prelude.{◌≡◌, ◌≤◌, All, true, [], IfOk};
-ghost use Rattle.std.specs.List.{AllByRecursion};
 ghost use Rattle.sf_script_scene.specs.declared.step.ActorScript.{ActorScript as ScriptValue};
 ghost use Rattle.sf_turns.specs.Counts.{range};
 ghost use Rattle.sf_live_compositor.specs.sf_actor_set.Scripts.{AreOfScene, permits_of};
-ghost use Rattle.sf_live_compositor.specs.sf_live_seats.Closing.{HasNoCalls, Opens};
-ghost use Rattle.sf_live_compositor.specs.sf_live_seats.First.{IsFirst};
 ghost use Rattle.sf_live_compositor.specs.sf_live_seats.Seats.{tells_of};
 ghost use Rattle.sf_live.specs.Openings.{IsOpen, MayStart};
 
 use sf_base::{Items, NoMemory};
-use sf_live_compositor::{Actor, ActorSet, FirstSeats, Locks, PlainDesk};
+use sf_live_compositor::{Actor, ActorSet, FirstSeats, Locks};
 use sf_picture::{Painted, Picture};
 use sf_script_scene::{ActorScript, QueueDecl};
 use sf_turns::{Stock, TableName, TurnSeat};
@@ -32,29 +29,6 @@ pub struct Opened<B: TableName> {
 pub struct Turns {
     pub seat: TurnSeat<Painted>,
     pub stock: Stock<Painted>,
-}
-
-/// A desk's queues, arrivals and timelines under locks, with the first seats at them. Senders learn
-/// their places, or send through an intake.
-fn share<B: TableName>(
-    alloc: Global,
-    desk: PlainDesk<B>,
-    tells: bool,
-) -> Result<(Locks<B>, FirstSeats<B>), NoMemory>
-    requires no_calls { AllByRecursion HasNoCalls desk.queues }
-    requires none_arrived { desk.arrivals ≡ [] }
-    ensures first { IfOk result (λ opened. IsFirst B.table opened.0 opened.1) }
-    ensures opened { IfOk result (λ opened. Opens tells desk.queues desk.times desk.turns opened.0 opened.1) }
-{
-    let PlainDesk {
-        queues,
-        arrivals,
-        table,
-        times,
-        turns,
-        tells: _,
-    } = desk;
-    Locks::open(alloc, queues, arrivals, table, times, turns, tells)
 }
 
 /// Opens a scene's actors and queues. It takes the seat and the whole stock of the turns, with a
@@ -79,7 +53,7 @@ pub fn open<B: TableName>(
     let Turns { seat, stock } = turns;
     let actor_set = ActorSet::new(alloc, queues, pictures, scripts, seat, stock)?;
     let (pictures, actors, desk) = actor_set.into_parts();
-    let (locks, first) = share(alloc, desk, tells)?;
+    let (locks, first) = Locks::open(alloc, desk, tells)?;
     Ok(Opened {
         pictures,
         actors,

@@ -63,6 +63,15 @@ module _ {K B : Type 0} {naming : Naming B} where
       pub failed : c.fault ≡ Some WriteFault → Rose (faults start.sink.now) (faults c.sink.now)
 
     module _ {A E : Type 0} (lease : Ghosts ReadLeaseOf SeatView ReadLeaseOf Issued) (table : TableId) (old new : Compositor K B naming) (result : Result A E) where
+      -- what a compositor keeps it keeps as a vsync is made
+      abbrev pub StaysMade : Locks B → FirstSeats B → FirstSeats B → Type 0
+      StaysMade locks before after =
+          (start : Compositor K B naming) → Keeps lease table start old locks before → OnOk result (Keeps lease table start new locks after)
+
+      -- unless it can make no more
+      abbrev pub EndsMade : Locks B → FirstSeats B → Type 0
+      EndsMade locks before = (start : Compositor K B naming) → Keeps lease table start old locks before → OnErr result (HasEnded lease table start new)
+
       -- what a compositor keeps, and what is kept with it, it keeps through a visit
       abbrev pub StaysKept : Type 0 → Locks B → FirstSeats B → FirstSeats B → Type 0
       StaysKept S locks before after =

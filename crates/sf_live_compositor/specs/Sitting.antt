@@ -70,6 +70,10 @@ module _ {B : Type 0} (lease : Ghosts ReadLeaseOf SeatView ReadLeaseOf Issued) (
     pub vsync : IsVsync lease table locks period before after
     pub is : (showing_of vsync).report ≡ report
 
+  -- what came of making a vsync: if one was made, it is such a one
+  abbrev pub MadeOne : {E : Type 0} → Sitting B → Sitting B → Result MadeVsync E → Type 0
+  MadeOne before after result = IfOk result (λ made. MakesVsync before after made.report)
+
   -- what the vsyncs of a log are shown by
   abbrev pub showings_of : {start last : Sitting B} → Vsyncs lease table locks period start last → List Showing
   showings_of Begin = []

@@ -1,5 +1,5 @@
-//! One vsync behind: the images of the last vsync are composed from pixels that are lent, while the
-//! next vsync is made; then the pixels come back.
+//! Beside a vsync the images of the last one are composed, where that is worth a thread, from pixels
+//! that are lent; then the pixels come back.
 ghost use Rattle.std.specs.Prelude.{◌≡◌, ◌+◌, ◌≤◌, false, IfOk, OnOk, length, map};
 ghost use Rattle.sf_live_threads.specs.sf_actor.Plain.{taken_in};
 ghost use Rattle.sf_play_write.specs.sf_play.Playing.{expected_by};
@@ -7,7 +7,7 @@ ghost use Rattle.sf_play_write.specs.Vsyncs.{AreImagesOf, AreReadableViews, Keep
 ghost use Rattle.sf_live_threads.specs.sf_calls_stamped.Stamps.{unstamped};
 ghost use Rattle.sf_live_compositor.specs.Keeping.{IsSame, sitting_in};
 ghost use Rattle.sf_live_compositor.specs.Vsyncs.{sitting_at};
-ghost use Rattle.sf_live_compositor.specs.Sitting.{HasAll, MadeLent, MakesNext, MakesVsync, MayMake, ShowsBuffers};
+ghost use Rattle.sf_live_compositor.specs.Sitting.{HasAll, MadeLent, MadeOne, MakesNext, MayMake, ShowsBuffers};
 
 use crate::compositor::Compositor;
 use crate::vsync::{MadeVsync, make_vsync};
@@ -59,6 +59,8 @@ struct NextVsync<'a, R, B: TableName> {
     period: u64,
     /// How many were made before.
     before: u32,
+    /// Whether something is composed beside it, so that pixels are read for long.
+    is_beside: bool,
 }
 
 impl<'a, R: Wait, B: TableName> Beside for NextVsync<'a, R, B> {
@@ -70,8 +72,11 @@ impl<'a, R: Wait, B: TableName> Beside for NextVsync<'a, R, B> {
         × MakesNext ⟦<ReadLease<B> as Lease>⟧ B.table next.locks.now next.period (sitting_at next.handler.now next.seats.now next.before)
         (sitting_at done.handler.now done.seats.now (next.before + 1)) result };
 
-    /// Makes it, and then notifies threads of the look at all that was done before.
+    /// Makes it, and, where something is composed beside it, notifies threads before that is done of the
+    /// look at all that was done before.
     fn run(&mut self) -> Result<MadeVsync, NoMemory> {
+        let look = self.look;
+        look.begin();
         let made = make_vsync(
             self.rt,
             self.locks,
@@ -80,8 +85,8 @@ impl<'a, R: Wait, B: TableName> Beside for NextVsync<'a, R, B> {
             self.period,
             self.before,
         );
-        if let Ok(made) = &made {
-            self.look.tell(self.rt, made.goes_on);
+        if let (Ok(made), true) = (&made, self.is_beside) {
+            look.tell_given(self.rt, made.releases);
         }
         made
     }
@@ -120,6 +125,7 @@ fn compose_and_make<R: Threads + Wait + Sync, B: TableName>(
         handler,
         period: visit.period,
         before: visit.before,
+        is_beside: !views.as_slice().is_empty(),
     };
     compose_beside(&engine, screens, contents, views, &mut next)
 }
@@ -139,8 +145,8 @@ fn make_beside<R: Threads + Wait + Sync, B: TableName>(
     requires readable { AreReadableViews (map expected_by handler.old.on) views.items }
     ensures images { IfOk result.0 (λ images. AreImagesOf (map expected_by handler.old.on) views.items screens.old images.items) }
     ensures shown { KeepsShown screens.old screens.new }
-    ensures makes { IfOk result.1 (λ made. MakesVsync ⟦<ReadLease<B> as Lease>⟧ B.table visit.now.locks.now visit.now.period
-        (sitting_at handler.old seats.old visit.now.before) (sitting_at handler.new seats.new (visit.now.before + 1)) made.report) }
+    ensures makes { MadeOne ⟦<ReadLease<B> as Lease>⟧ B.table visit.now.locks.now visit.now.period
+        (sitting_at handler.old seats.old visit.now.before) (sitting_at handler.new seats.new (visit.now.before + 1)) result.1 }
     ensures known { OnOk result.1 (handler.new.last ≤ taken_in (unstamped seats.new.arrivals.seen)) }
     ensures early { OnOk result.1 (seats.new.last.step ≤ visit.now.before + 1) }
     ensures all { HasAll handler.new }
@@ -178,8 +184,7 @@ impl<'a, K: Sink, B: TableName> Compositor<'a, K, B> {
         ensures sink { self.new.sink ≡ self.old.sink }
         ensures images { IfOk result.0 (λ images. AreImagesOf (map expected_by self.old.decider.handler.on) views.items self.old.screens images.items) }
         ensures shown { KeepsShown self.old.screens self.new.screens }
-        ensures makes { IfOk result.1 (λ made. MakesVsync ⟦<ReadLease<B> as Lease>⟧ B.table locks.now self.old.period
-            (sitting_in seats.old self.old) (sitting_in seats.new self.new) made.report) }
+        ensures makes { MadeOne ⟦<ReadLease<B> as Lease>⟧ B.table locks.now self.old.period (sitting_in seats.old self.old) (sitting_in seats.new self.new) result.1 }
         ensures known { OnOk result.1 (self.new.decider.handler.last ≤ taken_in (unstamped seats.new.arrivals.seen)) }
         ensures early { OnOk result.1 (seats.new.last.step ≤ self.new.vsyncs) }
         ensures all { HasAll self.new.decider.handler }

@@ -1,12 +1,12 @@
-//! What comes of a visit: the next vsync is made while the last one's images are composed, and then
-//! the last one's records are written.
-ghost use Rattle.std.specs.Prelude.{◌≡◌, ◌≤◌, IfOk, IfSome, IsErrOf, OnErr, OnOk, Some};
+//! The next vsync, and what the last one shows: where its records are due, its images are composed
+//! beside the next vsync, and then its records are written.
+ghost use Rattle.std.specs.Prelude.{◌≡◌, ◌≤◌, IfSome, IsErrOf, OnErr, OnOk, Some};
 ghost use Rattle.sf_live_threads.specs.sf_io.Causes.{Rose};
 ghost use Rattle.sf_play_write.specs.sf_play.Playing.{expected_by};
 ghost use Rattle.sf_play_write.specs.sf_play_report.Stages.{IsStage};
 ghost use Rattle.sf_play_write.specs.Vsyncs.{KeepsShown};
 ghost use Rattle.sf_live_compositor.specs.Keeping.{CutsIn, IsSame, TellsIn, WritesIn, sitting_in};
-ghost use Rattle.sf_live_compositor.specs.Sitting.{MakesVsync, MayShowNext, MaySit};
+ghost use Rattle.sf_live_compositor.specs.Sitting.{MadeOne, MayShowNext, MaySit};
 
 use crate::compositor::Compositor;
 use crate::vsync::MadeVsync;
@@ -29,8 +29,7 @@ impl<'a, K: Sink, B: TableName> Compositor<'a, K, B> {
         requires next { MayShowNext B.table locks.now self.old.period self.old.shows (sitting_in seats.old self.old) }
         requires stage { IsStage expected_by self.old.shows.plan self.old.decider.handler }
         ensures same { IsSame self.old self.new }
-        ensures makes { IfOk result (λ made. MakesVsync ⟦<ReadLease<B> as Lease>⟧ B.table locks.now self.old.period
-            (sitting_in seats.old self.old) (sitting_in seats.new self.new) made.report) }
+        ensures makes { MadeOne ⟦<ReadLease<B> as Lease>⟧ B.table locks.now self.old.period (sitting_in seats.old self.old) (sitting_in seats.new self.new) result }
         ensures stage { OnOk result (IsStage expected_by self.old.shows.plan self.new.decider.handler) }
         ensures may { OnOk result (MaySit self.old.shows.plan (sitting_in seats.new self.new)) }
         ensures written { OnOk result (WritesIn K.taken (Some last) self.old self.new) }
@@ -75,8 +74,7 @@ impl<'a, K: Sink, B: TableName> Compositor<'a, K, B> {
         requires next { MayShowNext B.table locks.now self.old.period self.old.shows (sitting_in seats.old self.old) }
         ensures same { IsSame self.old self.new }
         ensures sink { self.new.sink ≡ self.old.sink }
-        ensures makes { IfOk result (λ made. MakesVsync ⟦<ReadLease<B> as Lease>⟧ B.table locks.now self.old.period
-            (sitting_in seats.old self.old) (sitting_in seats.new self.new) made.report) }
+        ensures makes { MadeOne ⟦<ReadLease<B> as Lease>⟧ B.table locks.now self.old.period (sitting_in seats.old self.old) (sitting_in seats.new self.new) result }
         ensures stage { OnOk result (IsStage expected_by self.old.shows.plan self.new.decider.handler) }
         ensures may { OnOk result (MaySit self.old.shows.plan (sitting_in seats.new self.new)) }
         ensures shown { KeepsShown self.old.screens self.new.screens }
@@ -102,8 +100,7 @@ impl<'a, K: Sink, B: TableName> Compositor<'a, K, B> {
         requires next { MayShowNext B.table locks.now self.old.period self.old.shows (sitting_in seats.old self.old) }
         requires stage { IfSome self.old.due (λ _. IsStage expected_by self.old.shows.plan self.old.decider.handler) }
         ensures same { IsSame self.old self.new }
-        ensures makes { IfOk result (λ made. MakesVsync ⟦<ReadLease<B> as Lease>⟧ B.table locks.now self.old.period
-            (sitting_in seats.old self.old) (sitting_in seats.new self.new) made.report) }
+        ensures makes { MadeOne ⟦<ReadLease<B> as Lease>⟧ B.table locks.now self.old.period (sitting_in seats.old self.old) (sitting_in seats.new self.new) result }
         ensures stage { OnOk result (IsStage expected_by self.old.shows.plan self.new.decider.handler) }
         ensures may { OnOk result (MaySit self.old.shows.plan (sitting_in seats.new self.new)) }
         ensures written { OnOk result (WritesIn K.taken self.old.due self.old self.new) }

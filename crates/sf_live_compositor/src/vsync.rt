@@ -21,8 +21,9 @@ const MOST_TAKEN: usize = 4_096;
 pub(crate) struct MadeVsync {
     /// What it did.
     pub(crate) report: VsyncReport,
-    /// Whether another one may do more with nothing else done: it committed something, something waits
-    /// for its time, or as much was taken as a take gives, so that more may wait.
+    /// Whether another one may do more with nothing else done: it committed something and something
+    /// waits still, something waits for its time, or as much was taken as a take gives, so that more
+    /// may wait.
     pub(crate) goes_on: bool,
     /// Whether frames went, so that reads of them may end once the pixels are given back.
     pub(crate) releases: bool,
@@ -63,7 +64,7 @@ pub(crate) fn make_vsync<R: Wait, B: TableName>(
         held,
     } = seats.vsync(handler, arrived, &seen, expected)?;
     let goes_on = is_full
-        || !commits.as_slice().is_empty()
+        || (!commits.as_slice().is_empty() && !held.as_slice().is_empty())
         || held.as_slice().iter().any(|entry| is_time(entry));
     let has_released = !releases.as_slice().is_empty();
     release_all(rt, locks, seats, number, releases.into_vec())?;

@@ -1,6 +1,6 @@
 -- Seated actors that are away or here, while the visitor visits.
-use Rattle.std.proofs.Common.{◌≡◌, List, [], ◌∷◌, Result, Ok, Err, inl, inr, refl, sym, subst, ◌∙◌}
-use Rattle.std.specs.Prelude.{◌⊎◌, IfErr, IfOk, IsOk}
+use Rattle.std.proofs.Common.{◌≡◌, List, [], ◌∷◌, Result, Ok, Err, Some, None, inl, inr, refl, sym, subst, ◌∙◌}
+use Rattle.std.specs.Prelude.{◌⊎◌, Option, IfErr, IfOk, IfSome, IsErr, IsOk}
 use Rattle.std.specs.List.{AllByRecursion, AllZip}
 use Rattle.std.proofs.lemmas.Bool.{false≢true}
 use Rattle.atomic_table.specs.Seated.{TableId}
@@ -71,12 +71,16 @@ module _ {B V : Type 0} (keeps : V → Locks B → FirstSeats B → Type 0) (tab
     kept = kept;
   }
 
-module _ {B X E : Type 0} (table : TableId) (locks : Locks B) (pictures : List Picture) (tasks_in : X → List (Task B)) where
-  -- the same, where it came to an end
-  pub out_stay : (sent : List (SeatedActor B)) (tasks : List (Task B)) (rest : Result X E) → AreTasks table locks pictures sent tasks
-      → IfOk rest (λ x. AllZip (Stays table locks pictures) tasks (tasks_in x)) → IfOk rest (λ x. AreTasks table locks pictures sent (tasks_in x))
-  out_stay sent tasks (Ok x) are stays = tasks_stay table locks pictures sent tasks (tasks_in x) are stays
-  out_stay sent tasks (Err e) are stays = tt
+pub some_more : {T : Type 0} (P Q : T → Type 0) → ((t : T) → P t → Q t) → (sent : Option T) → IfSome sent P → IfSome sent Q
+some_more P Q f (Some t) p = f t p
+some_more P Q f None p = tt
+
+-- what came of what was sent, where all was
+pub some_ok : {T X E : Type 0} (P : T → Type 0) (R : T → X → Type 0) (Q : X → Type 0) → ((t : T) (x : X) → P t → R t x → Q x) → (sent : Option T) (rest : Result X E) → (sent ≡ None → IsErr rest) → IfSome sent P
+    → IfOk rest (λ x. IfSome sent (λ t. R t x)) → IfOk rest Q
+some_ok P R Q f (Some t) (Ok x) none p r = f t x p r
+some_ok P R Q f None (Ok x) none p r = absurd (false≢true (none refl))
+some_ok P R Q f sent (Err e) none p r = tt
 
 -- what comes of two results, the later of which is only where the first one is
 module _ {X Y E : Type 0} (P : X → Type 0) (R : X → Y → Type 0) (Q : Y → Type 0) where

@@ -1,6 +1,7 @@
 -- Lists beside each other, which grow at their ends.
-use Rattle.std.proofs.Common.{◌≡◌, ℕ, zero, suc, ◌<◌, List, [], ◌∷◌, ◌++◌, length, map, get_or, sym, refl, ap, ◌∙◌, subst, arith}
+use Rattle.std.proofs.Common.{◌≡◌, ℕ, zero, suc, ◌<◌, false, List, [], ◌∷◌, ◌++◌, length, map, get_or, sym, refl, ap, ◌∙◌, subst, arith}
 use Rattle.std.specs.List.{AllByRecursion, AllZip}
+use Rattle.std.specs.Prelude.{if◌then◌else◌, is_err, is_ok, Result, Ok, Err}
 
 module _ {X Y : Type 0} (P : X → Y → Type 0) where
   pub zip_push : (xs : List X) (ys : List Y) (x : X) (y : Y) → AllZip P xs ys → P x y → AllZip P (xs ++ x ∷ []) (ys ++ y ∷ [])
@@ -64,3 +65,8 @@ module _ {X : Type 0} where
   map_next P f [] i x all at = absurd (omega (arith, at.0))
   map_next P f (y ∷ ys) zero x all at = subst (λ (z : X). P (f z)) (sym at.1) all.0
   map_next P f (y ∷ ys) (suc i) x all at = map_next P f ys i x all.1 (omega (arith, at.0), at.1)
+
+-- what a list is after a push that found memory
+pub pushed_on : {X A E : Type 0} (r : Result A E) (before after now : List X) → is_err r ≡ false → now ≡ (if is_ok r then after else before) → now ≡ after
+pushed_on (Ok a) before after now found is = is
+pushed_on (Err e) before after now found is = cc

@@ -54,6 +54,10 @@ module _ {B : Type 0} (table : TableId) (pictures : ℕ → Picture) (locks : Lo
   ended_on (More {before} {after} walk one) =
       ended_on walk ++ ended_in pictures (home_of locks before.seats) before.of (view_of before.seats) one.steps.new (view_of after.seats) one.stepped one.steps.tries
 
+  -- what the seats left from one moment to another is the turns that were ended on the way
+  abbrev pub Leaves : {start last : Moment B} → Walk start last → Type 0
+  Leaves {start} {last} walk = (view_of last.seats).turns.leaves ≡ (view_of start.seats).turns.leaves ++ ended_on walk
+
   -- the actor is what contracts see of it, and keeps what it keeps over what its seats know
   pub record IsSound (moment : Moment B) : Type 0 where
     pub is : IsActor table moment.actor moment.of

@@ -1,9 +1,8 @@
 //! A law about an actor's walk over its seats, called for its clauses alone.
-ghost use Rattle.std.specs.Prelude.{◌≡◌, ◌++◌, ℕ, List};
+ghost use Rattle.std.specs.Prelude.{ℕ};
 ghost use Rattle.sf_picture.specs.declared.picture.Picture.{Picture};
 ghost use Rattle.sf_live_seats.specs.declared.locks.Locks.{Locks};
-ghost use Rattle.sf_live_seats.specs.Seats.{view_of};
-ghost use Rattle.sf_live_threads.specs.Walks.{Moment, Signals, Walk, ended_on};
+ghost use Rattle.sf_live_threads.specs.Walks.{Leaves, Moment, Signals, Walk};
 
 use sf_turns::TableName;
 
@@ -12,5 +11,5 @@ use sf_turns::TableName;
 pub fn seats_do_what_steps_do<B: TableName>()
     ensures signals { (pictures : ℕ → Picture) (locks : Locks B) (start last : Moment B) → Walk B.table pictures locks start last → Signals start last }
     ensures leaves { (pictures : ℕ → Picture) (locks : Locks B) (start last : Moment B) (walk : Walk B.table pictures locks start last)
-        → (view_of last.seats).turns.leaves ≡ (view_of start.seats).turns.leaves ++ ended_on B.table pictures locks walk }
+        → Leaves B.table pictures locks walk }
 {}

@@ -1,6 +1,12 @@
 //! A desk that notes what a step does over it: a thread asks it afterwards whom to wake, or what to
 //! wait for.
-use sf_actor_steps::{CallFault, Desk, DrawFault, Tokens};
+ghost use Rattle.std.specs.Prelude.{◌≡◌, false};
+ghost use Rattle.sf_actor_steps.specs.Actors.{IsKept, TriesToStep};
+ghost use Rattle.sf_actor_steps.specs.Playable.{MayPlay};
+ghost use Rattle.sf_actor_steps.specs.sf_actor.Scripts.{picture_at};
+
+use sf_actor::TokensOf;
+use sf_actor_steps::{Actor, CallFault, Desk, DrawFault, Stepped, TableName, Tokens};
 use sf_base::{ActorId, NoMemory, QueueId, Seen, TimelineId};
 use sf_live_watch::{Awaited, Effect, Slots};
 use sf_picture::Picture;
@@ -57,8 +63,6 @@ pub(crate) struct NotingDesk<D> {
 }
 
 impl<D> NotingDesk<D> {
-    ghost use Rattle.std.specs.Prelude.{◌≡◌};
-
     /// Nothing was done over the desk yet.
     pub(crate) fn new(desk: D) -> NotingDesk<D>
         ensures { result.desk ≡ desk }
@@ -144,4 +148,22 @@ impl<K: Tokens, D: Desk<K>> Desk<K> for NotingDesk<D> {
         self.noted.ends = true;
         self.desk.end(ending);
     }
+}
+
+/// One try of an actor's next step over a desk, and what it did at what all share.
+pub(crate) fn try_noting<B: TableName, D: Desk<TokensOf<B>>>(
+    actor: &mut Actor<B>,
+    desk: D,
+    pictures: &[Picture],
+) -> (D, Result<Stepped, NoMemory>, Noted)
+    requires plays { MayPlay (D.home desk) pictures.now actor.old.script }
+    requires kept { actor.old.is_spent ≡ false → IsKept B.table (picture_at pictures.now) (D.home desk) actor.old (D.view desk) }
+    ensures steps { TriesToStep B.table (picture_at pictures.now) (D.home desk) actor.old (D.view desk) actor.new (D.view result.0) result.1 }
+    ensures script { actor.new.script ≡ actor.old.script }
+    ensures home { D.home result.0 ≡ D.home desk }
+{
+    let mut noting = NotingDesk::new(desk);
+    let stepped = actor.try_step(&mut noting, pictures);
+    let (desk, noted) = noting.into_parts();
+    (desk, stepped, noted)
 }

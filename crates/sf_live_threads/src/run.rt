@@ -1,6 +1,6 @@
 //! A run in threads, from the first to the last: seats are given out, threads are started, visits
 //! are made while they run, all are joined, and their seats are taken in. `sf_live` calls it.
-ghost use Rattle.std.specs.Prelude.{◌≡◌, ◌+◌, ◌≤◌, [], ◌∷◌, ◌⊎◌, length, map, Err, IfErr, IfOk, IsOk};
+ghost use Rattle.std.specs.Prelude.{◌≡◌, ◌+◌, ◌≤◌, [], ◌∷◌, ◌⊎◌, length, map, Err, IfErr, IfOk, IfSome, IsErr, IsOk, None};
 ghost use Rattle.std.specs.List.{AllByRecursion, AllZip};
 ghost use Rattle.std.specs.List.Sorted.{IsStrictlyIncreasing};
 ghost use Rattle.sf_live_seats.specs.declared.first.FirstSeats.{FirstSeats as FirstIn};
@@ -9,7 +9,7 @@ ghost use Rattle.sf_live_seats.specs.Seats.{MaySend};
 ghost use Rattle.sf_live_threads.specs.Seating.{GivesEach, IsNewcomer, number_of};
 ghost use Rattle.sf_live_threads.specs.SeatedActors.{MayTryNext};
 ghost use Rattle.sf_live_threads.specs.Backs.{AllCame};
-ghost use Rattle.sf_live_threads.specs.inner.Tasks.{AreTasks, GivesWhole, IsFitTask, Stays};
+ghost use Rattle.sf_live_threads.specs.inner.Tasks.{GivesWhole, IsFitTask, Stays};
 ghost use Rattle.sf_live_threads.specs.Meeting.{MeetsReunited, as_returned, seats_of};
 ghost use Rattle.sf_live_threads.specs.Returns.{Returns};
 ghost use Rattle.sf_live_threads.specs.Visits.{Attends, HasLeft, HasLeftOrIs};
@@ -33,7 +33,7 @@ use sf_turns::TableName;
 use std::alloc::Global;
 use std::sync::Wait;
 use std::thread;
-use std::thread::{Scope, Threads};
+use std::thread::Threads;
 
 /// Why a run in threads came to no end.
 #[derive(Clone, Copy)]
@@ -74,55 +74,44 @@ fn attend<'s, R: Threads + Wait + Sync, G: Gate, B: TableName, V: Visit<R, B>>(
 {
     let mut first = first;
     let mut tasks = tasks;
-    let mut seen = 0;
     for _ in pacing.rt.forever() {
-        let Some(news) = pacing.watch.next(pacing.rt, seen) else {
+        if !pacing.watch.next(pacing.rt) {
             return Ok((first, tasks));
-        };
-        seen = news;
+        }
         let Some(tried) = try_here(pacing, locks, pictures, tasks) else {
             return Err(Stopped::NoMemory);
         };
         tasks = tried;
         let look = Look {
             watch: pacing.watch,
-            news,
         };
         match visitor.visit(pacing.rt, locks, &mut first, &look) {
-            Ok(did) => look.end(pacing.rt, did),
+            Ok(goes_on) => look.end(goes_on),
             Err(Ended) => return Err(Stopped::Ended),
         }
     }
     unreachable!()
 }
 
-/// Starts a thread for each seated actor, and visits until all rest.
-fn send_out<
-    's,
-    E,
-    R: Threads + Wait + Sync,
-    G: Gate + Sync,
-    B: TableName + Send + Sync + 's,
-    V: Visit<R, B>,
->(
-    scope: &Scope<'s, E>,
-    pacing: &'s Pacing<'s, R, G>,
-    locks: &'s Locks<B>,
-    pictures: &'s [Picture],
+/// Visits until all rest, where all were sent.
+fn attend_sent<'s, R: Threads + Wait + Sync, G: Gate, B: TableName, V: Visit<R, B>>(
+    pacing: &Pacing<R, G>,
+    locks: &Locks<B>,
+    pictures: &[Picture],
     first: FirstSeats<B>,
     visitor: &mut V,
-    seated_actors: Vec<SeatedActor<B>>,
+    sent: Option<Vec<Task<'s, B>>>,
 ) -> Result<(FirstSeats<B>, Vec<Task<'s, B>>), Stopped>
     requires first { IsFirst B.table locks.now first }
     requires kept { (start : V) × V.keeps start visitor.old locks.now first }
-    requires few { length seated_actors.items ≤ 64 }
-    requires may_try_next { AllByRecursion (MayTryNext B.table locks.now pictures.now) seated_actors.items }
+    requires fit { IfSome sent (λ tasks. AllByRecursion (IsFitTask B.table locks.now pictures.now) tasks.items) }
     ensures attended { (start : V) → V.keeps start visitor.old locks.now first
         → IfOk result (λ rest. Attends (V.keeps start) B.table locks.now first rest.0 visitor.new) }
     ensures left { (start : V) → V.keeps start visitor.old locks.now first → IfErr result (HasLeft (V.keeps start) (V.ended start) locks.now visitor.new) }
-    ensures tasks { IfOk result (λ rest. AreTasks B.table locks.now pictures.now seated_actors.items rest.1.items) }
+    ensures tasks { IfOk result (λ rest. IfSome sent.entry (λ tasks. AllZip (Stays B.table locks.now pictures.now) tasks.items rest.1.items)) }
+    ensures none { sent.entry ≡ None → IsErr result }
 {
-    let Some(tasks) = send_all(scope, pacing, locks, pictures, seated_actors) else {
+    let Some(tasks) = sent else {
         return Err(Stopped::NoMemory);
     };
     attend(pacing, locks, pictures, first, visitor, tasks)
@@ -184,15 +173,8 @@ fn crowd<
             ensures came { IfOk result.1 (λ rest. AllCame B.table locks.entry.now pictures.entry.now seated_actors.items rest.1.items) }
         {
             let mut visitor = visitor;
-            let rest = send_out(
-                scope,
-                pacing,
-                locks,
-                pictures,
-                first,
-                &mut visitor,
-                seated_actors,
-            );
+            let sent = send_all(scope, pacing, locks, pictures, seated_actors);
+            let rest = attend_sent(pacing, locks, pictures, first, &mut visitor, sent);
             pacing.watch.stop();
             (visitor, join_all(pacing.rt, pacing.alloc, rest))
         },

@@ -3,7 +3,7 @@
 ghost use Rattle.std.specs.Prelude.{IfOk};
 ghost use Rattle.sf_live_threads.specs.SeatedActors.{MayTryNext, TriesNext};
 
-use crate::noting::{Noted, NotingDesk};
+use crate::noting::{Noted, try_noting};
 use crate::pacing::Pacing;
 use crate::seated_actor::SeatedActor;
 use sf_actor_steps::Stepped;
@@ -32,9 +32,7 @@ pub(crate) fn try_next<R: Wait, G: Gate, B: TableName>(
     } = seated_actor;
     let gates = gates.ready(pacing.rt, pacing.gate, &actor);
     let desk = SharedDesk::new(pacing.rt, locks, seats);
-    let mut noting = NotingDesk::new(desk);
-    let stepped = actor.try_step(&mut noting, pictures);
-    let (desk, noted) = noting.into_parts();
+    let (desk, stepped, noted) = try_noting(&mut actor, desk, pictures);
     let seats = desk.into_seats();
     let seated_actor = SeatedActor {
         actor,

@@ -16,44 +16,55 @@ use std::thread::Threads;
 #[derive(Clone, Copy)]
 pub struct Ended;
 
-/// What the part of a visit before its look may bring, where it did something: it gives buffers back.
-/// Their pixels are read up to the end of the visit.
-const OF_LOOK: Effect = Effect {
+/// What a visitor brings that gave buffers back, whose pixels it reads still.
+const GIVEN: Effect = Effect {
     slots: Slots::OfAny,
     points: false,
     turns: false,
-    looks: true,
+    looks: false,
 };
 
-/// What a whole visit may bring that did something: turns at the buffers that it gave back end, too.
-const OF_VISIT: Effect = Effect {
+/// What it brings once it reads them no more: turns at them end, too.
+const READ: Effect = Effect {
     turns: true,
-    ..OF_LOOK
+    ..GIVEN
 };
 
-/// A visitor's look at all that was done up to some news.
+/// A visitor's look at all that was done.
 #[derive(Clone, Copy)]
 pub struct Look<'a> {
     pub(crate) watch: &'a Watch,
-    pub(crate) news: u64,
 }
 
 impl<'a> Look<'a> {
-    /// Notifies threads that wait for it that all was looked at, before the part that follows is
-    /// over; and whether anything was done that may let a thread go on.
-    pub fn tell<R: Wait>(&self, rt: &R, did: bool) {
-        self.tell_effect(rt, did, OF_LOOK);
+    /// All that was done up to now is looked at by what follows.
+    pub fn begin(&self) {
+        self.watch.look_on();
     }
 
-    /// The visit is over.
-    pub(crate) fn end<R: Wait>(&self, rt: &R, did: bool) {
-        self.tell_effect(rt, did, OF_VISIT);
+    /// Notifies threads that wait for it that all was looked at, and, where buffers were given back,
+    /// those that wait for one. Their pixels may be read still.
+    pub fn tell_given<R: Wait>(&self, rt: &R, gave: bool) {
+        self.tell(rt, gave, GIVEN);
     }
 
-    /// All was looked at; and what was done has this effect, if anything was.
-    fn tell_effect<R: Wait>(&self, rt: &R, did: bool, effect: Effect) {
-        self.watch.tell_looked(self.news);
-        if did {
+    /// The same once the pixels are read no more: those are notified, too, that wait for a turn at them.
+    pub fn tell_read<R: Wait>(&self, rt: &R, gave: bool) {
+        self.tell(rt, gave, READ);
+    }
+
+    /// The visit is over; and whether another one may do more, though nothing else is done.
+    pub(crate) fn end(&self, goes_on: bool) {
+        self.watch.tell_looked();
+        if goes_on {
+            self.watch.look_again();
+        }
+    }
+
+    /// All was looked at; and where buffers were given back, that has this effect.
+    fn tell<R: Wait>(&self, rt: &R, gave: bool, effect: Effect) {
+        self.watch.tell_looked();
+        if gave {
             self.watch.tell_done(rt, effect);
         }
     }
@@ -68,8 +79,8 @@ pub trait Visit<R: Threads + Wait + Sync, B: TableName> {
     /// What it keeps of itself since then once it can do no more.
     ghost ended: { Self → Self → Type 0 };
 
-    /// Does its part, after something was done. It may report its look before it is done with it.
-    /// Whether it did anything itself since then that may let a thread go on.
+    /// Does its part, after something was done, and reports its look at it. Whether another visit may do
+    /// more, though nothing else is done.
     fn visit(
         &mut self,
         rt: &R,

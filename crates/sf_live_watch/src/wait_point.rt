@@ -3,24 +3,32 @@
 use crossbeam_utils::sync::EventCount;
 use std::hint::spin_loop;
 use std::sync::Wait;
-use std::sync::atomic::{AtomicU64, Ordering};
+use std::sync::atomic::{AtomicU32, Ordering};
 
 /// How often a thread looks before it sleeps, where that was of use the last time: for some tens of
 /// microseconds, about what it takes to sleep and be woken.
 const MOST_LOOKS: u32 = 20_000;
 
-/// How often it looks where that was of no use.
+/// How often it looks at least.
 const LEAST_LOOKS: u32 = 200;
 
 /// After so many waits that looked in vain, one looks long again.
-const PROBES: u64 = 16;
+const PROBES: u32 = 16;
+
+/// How often a thread looks after so many waits in a row that looked in vain: after each half as often.
+fn looks_after(vain: u32) -> u32 {
+    if vain % PROBES == 0 {
+        return MOST_LOOKS;
+    }
+    (MOST_LOOKS >> vain.min(PROBES)).max(LEAST_LOOKS)
+}
 
 /// Where threads wait until something came about.
 #[derive(Drop)]
 pub(crate) struct WaitPoint {
     event: EventCount,
     /// How many waits in a row looked in vain.
-    vain: AtomicU64,
+    vain: AtomicU32,
 }
 
 impl WaitPoint {
@@ -28,7 +36,7 @@ impl WaitPoint {
     pub(crate) fn new() -> WaitPoint {
         WaitPoint {
             event: EventCount::new(),
-            vain: AtomicU64::new(0),
+            vain: AtomicU32::new(0),
         }
     }
 
@@ -42,12 +50,7 @@ impl WaitPoint {
         requires { F.IsAlwaysCallable came.now }
     {
         let vain = self.vain.load(Ordering::SeqCst);
-        let looks = if vain % PROBES == 0 {
-            MOST_LOOKS
-        } else {
-            LEAST_LOOKS
-        };
-        for look in 0..looks {
+        for look in 0..looks_after(vain) {
             if came() {
                 if look > LEAST_LOOKS {
                     self.vain.store(0, Ordering::SeqCst);

@@ -45,6 +45,8 @@ pub struct Watch {
     kinds: [Kind; KINDS],
     /// The latest news for the starter.
     called: AtomicU64,
+    /// Up to which news it looks.
+    looking: AtomicU64,
     /// Up to which news it has looked.
     looked: AtomicU64,
     /// Whether all are idle or have ended.
@@ -71,6 +73,7 @@ impl Watch {
             news: AtomicU64::new(1),
             kinds: array::from_fn(|_| Kind::new()),
             called: AtomicU64::new(1),
+            looking: AtomicU64::new(0),
             looked: AtomicU64::new(0),
             at_rest: AtomicBool::new(many == 0),
             stopped: AtomicBool::new(false),
@@ -90,9 +93,9 @@ impl Watch {
         self.stopped.load(Ordering::SeqCst)
     }
 
-    /// Whether there are news for the starter that it has not seen.
-    fn is_called(&self, seen: u64) -> bool {
-        seen < self.called.load(Ordering::SeqCst)
+    /// Whether there are news for the starter that it has not looked at.
+    fn is_called(&self) -> bool {
+        self.looked.load(Ordering::SeqCst) < self.called.load(Ordering::SeqCst)
     }
 
     /// Whether the starter has looked up to these news, or nobody is to wait for a look.
@@ -212,24 +215,39 @@ impl Watch {
         !self.is_stopped()
     }
 
-    /// The starter waits for news to look at, later ones than it has seen, the first time than 0.
-    /// The latest, or none where all threads are idle or have ended, or are to stop.
-    pub fn next<R: Wait>(&self, rt: &R, seen: u64) -> Option<u64> {
-        let came = || {
-            self.is_called(seen) || self.at_rest.load(Ordering::SeqCst) || self.is_stopped()
-        };
+    /// The starter waits for news that it has not looked at, and begins to look. False where all threads
+    /// are idle or have ended, or are to stop.
+    pub fn next<R: Wait>(&self, rt: &R) -> bool {
+        let came = || self.is_called() || self.at_rest.load(Ordering::SeqCst) || self.is_stopped();
         self.starter.wait_until(rt, &came);
-        if self.is_stopped() || !self.is_called(seen) {
-            return None;
+        if self.is_stopped() || !self.is_called() {
+            return false;
         }
-        Some(self.news())
+        self.looking.store(self.news(), Ordering::SeqCst);
+        true
     }
 
-    /// The starter has looked at all that was done up to these news.
-    pub fn tell_looked(&self, news: u64) {
+    /// The starter, which began to look, looks at all that was done up to now. Where no thread could be
+    /// started for some index it looks no further than it began to: what it did since then for that
+    /// actor is news, so that it goes on with it.
+    pub fn look_on(&self) {
+        if !self.has_turned_away.load(Ordering::SeqCst) {
+            self.looking.store(self.news(), Ordering::SeqCst);
+        }
+    }
+
+    /// The starter has looked at all that it looks at.
+    pub fn tell_looked(&self) {
+        let news = self.looking.load(Ordering::SeqCst);
         if self.looked.swap(news, Ordering::SeqCst) != news {
             self.looked_on.notify();
         }
+    }
+
+    /// The starter is to look again, though nothing else is done.
+    pub fn look_again(&self) {
+        let news = self.news.fetch_add(1, Ordering::SeqCst).wrapping_add(1);
+        self.called.fetch_max(news, Ordering::SeqCst);
     }
 
     /// A thread, which isn't idle, waits until the starter has looked up to these news, its own. Where no

@@ -78,10 +78,17 @@ fn count_wakes<R: Wait>(rt: &R, watch: &Watch, awaited: Awaited) -> usize {
     unreachable!()
 }
 
-/// Waits until all rest, where nothing is done any more.
-fn wait_for_rest<R: Wait>(rt: &R, watch: &Watch) {
-    let seen = watch.news();
-    watch.next(rt, seen);
+/// Looks whenever there is news, until all rest. Whether there was news.
+fn wait_for_rest<R: Wait>(rt: &R, watch: &Watch) -> bool {
+    let mut looked = false;
+    for _ in rt.forever() {
+        if !watch.next(rt) {
+            return looked;
+        }
+        watch.tell_looked();
+        looked = true;
+    }
+    unreachable!()
 }
 
 /// How often a thread that waits for this is let go on, while something is done so often that has this
@@ -111,15 +118,31 @@ fn wakes_of<R: Threads + Wait + Sync>(
 
 /// Looks whenever there is news, until all rest. Then all are to stop. Whether there was news.
 fn look<R: Wait>(rt: &R, watch: &Watch) -> bool {
-    let mut seen = 0;
-    for _ in rt.forever() {
-        match watch.next(rt, seen) {
-            Some(news) => seen = news,
-            None => break,
-        }
-    }
+    let looked = wait_for_rest(rt, watch);
     watch.stop();
-    seen != 0
+    looked
+}
+
+/// Whether a thread goes on that has seen news before it is idle, and for which they are brought only
+/// then: it has seen a number that no news have yet.
+fn goes_on_late<R: Threads + Wait + Sync>(rt: &R, awaited: Awaited) -> bool {
+    let watch = Watch::new(1);
+    let shared = &watch;
+    thread::scope(thread::scope_env(), rt, move |scope| {
+        let started = scope.spawn(move || -> bool {
+            let seen = shared.news().wrapping_add(1);
+            let goes_on = shared.idle(rt, awaited, seen);
+            shared.tell_ended(rt);
+            goes_on
+        });
+        let Ok(waiting) = started else {
+            return false;
+        };
+        wait_for_rest(rt, shared);
+        shared.tell_done(rt, bringing(awaited));
+        wait_for_rest(rt, shared);
+        waiting.join(rt)
+    })
 }
 
 /// Threads for these places, the last one first, each of which waits for its turn: where the count
@@ -172,14 +195,13 @@ fn do_and_wait<R: Wait>(
 
 /// Looks whenever there is news, until all rest, at what was done.
 fn look_at<R: Wait>(rt: &R, watch: &Watch, done: &AtomicUsize, seen: &AtomicUsize) {
-    let mut latest = 0;
     for _ in rt.forever() {
-        match watch.next(rt, latest) {
-            Some(news) => latest = news,
-            None => break,
+        if !watch.next(rt) {
+            break;
         }
+        watch.look_on();
         seen.store(done.load(Ordering::SeqCst), Ordering::SeqCst);
-        watch.tell_looked(latest);
+        watch.tell_looked();
     }
     watch.stop();
 }
@@ -282,12 +304,17 @@ fn answer<R: Print + Threads + Wait + Sync>(
         "is-turned-away" if place < MOST_WATCHED => {
             println!(rt; "{line}: {}", watch.is_turned_away(rt, place))
         }
-        "next" => match watch.next(rt, value) {
-            Some(news) => println!(rt; "{line}: {news}"),
-            None => println!(rt; "{line}: none"),
-        },
+        "next" => println!(rt; "{line}: {}", watch.next(rt)),
+        "look-on" => {
+            watch.look_on();
+            println!(rt; "{line}: told")
+        }
         "looked" => {
-            watch.tell_looked(value);
+            watch.tell_looked();
+            println!(rt; "{line}: told")
+        }
+        "again" => {
+            watch.look_again();
             println!(rt; "{line}: told")
         }
         "done" => {
@@ -303,6 +330,10 @@ fn answer<R: Print + Threads + Wait + Sync>(
         }
         "is-stopped" => println!(rt; "{line}: {}", watch.is_stopped()),
         "wait" => println!(rt; "{line}: {}", watch.wait_for_look(rt, *told)),
+        "late" => match awaited(first) {
+            Some(awaited) => println!(rt; "{line}: {}", goes_on_late(rt, awaited)),
+            None => println!(rt; "{line}: no call"),
+        },
         "unseen" => println!(rt; "{line}: {}", goes_on_unseen(rt)),
         "stop" => {
             watch.stop();

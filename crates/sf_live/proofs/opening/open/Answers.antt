@@ -19,8 +19,8 @@ use Rattle.sf_live.proofs.Newcomers.{few_opened, newcomers, numbers_same, opened
 use Rattle.sf_live.proofs.OpenedScenes.{are_actors, marks_opened, stock_below, stock_once}
 use Rattle.sf_live.proofs.opening.open.Goals as goal
 
-pub share-requires : goal.share-requires
-share-requires g c =
+pub open-requires : goal.open-requires
+open-requires g c =
     let opens = c.in_ok-actor_set.ensures in
     record {
       no_calls =

@@ -1,10 +1,9 @@
-use Rattle.std.proofs.Common.{rules}
 use Rattle.sf_live_threads.proofs.AttendLemmas.{attends_more, attends_none, stays_fit, stays_on, stays_same}
 use Rattle.sf_live_threads.proofs.run.attend.Goals as goal
 
 pub loop-init : goal.loop-init
 loop-init g c = record {
-  steps = search rules;
+  steps = (tt, tt);
   some = c.requires.kept;
   attends = λ start kept. attends_none {B = g.row.B.Denot} {V = g.row.V.Denot} (g.V.Visit.keeps start) g.B.TableName.table c.args.locks.now c.args.first _ c.requires.first kept;
   first = c.requires.first;
@@ -31,5 +30,17 @@ loop-preserved g c = record {
 pub visit-requires-clause-kept : goal.visit-requires-clause-kept
 visit-requires-clause-kept g c = c.loop.invariant.some
 
-pub returns-in_default-try_here-clause-left : goal.returns-in_default-try_here-clause-left
-returns-in_default-try_here-clause-left g c = λ start kept. (c.loop.first, (c.loop.invariant.attends start kept).kept)
+pub returns-in_default-clause-left : goal.returns-in_default-clause-left
+returns-in_default-clause-left g c = λ start kept. (c.loop.first, (c.loop.invariant.attends start kept).kept)
+
+pub visit-requires-clause-first : goal.visit-requires-clause-first
+visit-requires-clause-first g c = c.loop.invariant.first
+
+pub returns-then-not-next-clause-tasks : goal.returns-then-not-next-clause-tasks
+returns-then-not-next-clause-tasks g c = c.loop.invariant.tasks
+
+pub returns-in_default-clause-tasks : goal.returns-in_default-clause-tasks
+returns-in_default-clause-tasks g c = tt
+
+pub returns-in-Err-clause-tasks : goal.returns-in-Err-clause-tasks
+returns-in-Err-clause-tasks g c = tt
