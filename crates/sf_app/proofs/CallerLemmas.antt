@@ -9,7 +9,9 @@ use Rattle.std.specs.Prelude.{filter}
 use Rattle.sf_live.specs.sf_slots.declared.calls.Entry.{Entry}
 use Rattle.sf_script_scene.specs.Scene.{SceneValue}
 use Rattle.sf_script_scene.specs.declared.declarations.QueueDecl.{QueueDecl}
-use Rattle.sf_record_sums.specs.sf_record.Events.{closing, event_records, events_records, output_record}
+use Rattle.sf_record_sums.specs.sf_record.Events.{closing, event_records, events_records, image_record, output_record}
+use Rattle.sf_record_sums.specs.sf_output.declared.image.ImageId.{ImageId}
+use Rattle.sf_record_sums.specs.sf_output.declared.image.ImageId.TheVariants as id
 use Rattle.sf_record_sums.specs.sf_output.declared.output.Output.{Output}
 use Rattle.sf_record_sums.specs.sf_output.declared.output.Output.TheVariants as out
 use Rattle.sf_record_sums.specs.sf_record.declared.event.Event.{Event}
@@ -40,10 +42,13 @@ unfolding histories_in
 all_histories [] = refl
 all_histories (h ∷ histories) = ap (λ (l : List QueueHistory). h ∷ l) (all_histories histories)
 
+none_of_image : (of : ImageId) (number : ℕ) (pixels : List ℕ) → history_in (image_record of number pixels) ≡ []
+none_of_image id.Frame number pixels = refl
+none_of_image (id.Display output) number pixels = refl
+none_of_image (id.Capture output) number pixels = refl
+
 none_of_output : (number : ℕ) (output : Output (List ℕ)) → history_in (output_record number output) ≡ []
-none_of_output number (out.Frame pixels) = refl
-none_of_output number (out.Display place pixels) = refl
-none_of_output number (out.Capture place pixels) = refl
+none_of_output number (out.Image image) = none_of_image image.of number image.shows
 none_of_output number (out.Hit place layer) = refl
 
 behind : (r : Record) (rs : List Record) → history_in r ≡ [] → histories_in (r ∷ rs) ≡ histories_in rs

@@ -1,5 +1,5 @@
 -- Which statuses are left where the words are right, the script is a scene, and nothing failed.
-use Rattle.std.proofs.Common.{◌≡◌, ℕ, ◌<◌, ◌≤◌, Bool, true, false, List, [], ◌∷◌, ◌++◌, Option, None, Some, Result, Ok, Err, length, ◌⊎◌, inl, inr, refl, sym, ap, subst, ◌∙◌, arith, length-append, OnErr, IsErrOf}
+use Rattle.std.proofs.Common.{◌≡◌, ℕ, ◌<◌, ◌≤◌, Bool, true, false, List, [], ◌∷◌, ◌++◌, Option, None, Some, Result, Ok, Err, length, ◌⊎◌, inl, inr, refl, sym, ap, subst, ◌∙◌, arith, length-append, OnErr, OnOk, IsErrOf}
 use Rattle.std.specs.Prelude.{◌≢◌}
 use Rattle.std.proofs.lemmas.List.{append-nil, take_all}
 use Rattle.std.proofs.lemmas.Bool.{cases_eq, lt-ltb}
@@ -27,7 +27,9 @@ use Rattle.sf_live.specs.sf_play_write.Runs.{CutRun}
 use Rattle.sf_live.specs.sf_play_write.Writing.{CutSome}
 use Rattle.sf_app.proofs.HeaderLemmas.{IsPeriod, parsed_timed}
 use Rattle.sf_app.specs.Shown.{ShowsPart, ShowsPlay, ShowsRun, ShowsRunPart, records_shown}
-use Rattle.sf_app.specs.Statuses.{NoScene, PlayedScript, PrefixOf, RefusedScript, RunEnded, ScriptEnded, WritesPrefix, at_no_place, fault_bytes, misspelled, too_long}
+use Rattle.sf_app.specs.Statuses.{NoScene, PlayedScript, PrefixOf, RefusedScript, RunEnded, ScriptEnded, Spells, WritesPrefix, at_no_place, fault_bytes, misspelled, spells, status_of, too_long, too_long_to_spell}
+use Rattle.sf_app.specs.declared.scene.SceneFault.{SceneFault}
+use Rattle.sf_app.specs.declared.scene.SceneFault.TheVariants as scene_fault
 use Rattle.sf_app.specs.Words.{IsScript, IsScriptBy, IsTold, IsToldBy, generated, is_gen, tells_place}
 
 pub nothing_took : (a : Option (List ℕ)) (bs : List ℕ) → TookPrefix a a bs
@@ -252,12 +254,17 @@ script_cut options p n a b f g low high failed prefix cut = record {
   cut = cut;
 }
 
--- nothing was written for want of memory
-pub script_unread : (options : Options) (bytes : List ℕ) (a : Option (List ℕ)) (f : ℕ) → ScriptEnded options (parsed_of bytes) 5 a a f f
-script_unread options bytes a f = script_cut options (parsed_of bytes) 5 a a f f (omega arith) (omega arith) (λ e. absurd (omega (arith, e))) (prefix_none options bytes a) (cut_nothing a)
+-- the run of a scene ended
+pub run_ended : (options : Options) (scene : SceneValue) (r : Result (Unit {0}) RunFault) (a b : Option (List ℕ)) (f g : ℕ) → OnOk r (ShowsRun options.run options.summary (tells_place options) scene a b)
+    → OnErr r (ShowsRunPart options.run options.summary (tells_place options) scene a b) → (IsErrOf r run_fault.WriteFault → Rose f g) → ScriptEnded options (Ok scene) (status_of r) a b f g
+run_ended options scene (Ok u) a b f g ok err failed = scene_shown options scene a b f g ok
+run_ended options scene (Err run_fault.WriteFault) a b f g ok err failed =
+    script_cut options (Ok scene) 4 a b f g (omega arith) (omega arith) (λ _. failed refl) err (run_cut options.run options.summary (tells_place options) scene a b err)
+run_ended options scene (Err run_fault.NoMemory) a b f g ok err failed =
+    script_cut options (Ok scene) 5 a b f g (omega arith) (omega arith) (λ e. absurd (omega (arith, e))) err (run_cut options.run options.summary (tells_place options) scene a b err)
 
 -- what a script spells
-pub spelled_as : (options : Options) (p q : Result SceneValue ScriptFault) (n : ℕ) (a b : Option (List ℕ)) (f g : ℕ) → p ≡ q → ScriptEnded options q n a b f g → ScriptEnded options p n a b f g
+spelled_as : (options : Options) (p q : Result SceneValue ScriptFault) (n : ℕ) (a b : Option (List ℕ)) (f g : ℕ) → p ≡ q → ScriptEnded options q n a b f g → ScriptEnded options p n a b f g
 spelled_as options p q n a b f g is h = subst (λ (r : Result SceneValue ScriptFault). ScriptEnded options r n a b f g) (sym is) h
 
 three_or_five : (n : ℕ) → (n ≡ 3) ⊎ (n ≡ 5) → (m : ℕ) → n ≡ m → m ≢ 3 → m ≢ 5 → ⊥
@@ -273,6 +280,10 @@ err_is_not_ok e = cc
 
 same_fault : (p : Result SceneValue ScriptFault) (one other : ScriptFault) → p ≡ Err one → p ≡ Err other → one ≡ other
 same_fault p one other e f = cc
+
+-- the fault of a script that is no scene is one
+pub one_fault : (first second : Result SceneValue SceneFault) (one other : ScriptFault) → first ≡ Err (scene_fault.Script one) → second ≡ Err (scene_fault.Script other) → first ≡ second → one ≡ other
+one_fault first second one other e f same = cc
 
 -- a fault is no scene
 no_scene : {A : Type 0} {P : SceneValue → Type 0} {fault : ScriptFault} → (scene : SceneValue) × (Err fault ≡ Ok scene) × P scene → A
@@ -320,7 +331,7 @@ module _ {S K : Type 0} (left : S → Option (List ℕ)) (reads : S → ℕ) (ta
     cut = cut_nothing (taken sink);
   }
 
-  -- the source failed, or memory was wanting to read it
+  -- the source failed, or memory was wanting to read its script
   pub unread_script : (options : Options) (n : ℕ) (source rest : S) (sink : K) → (n ≡ 3) ⊎ (n ≡ 5) → (n ≡ 3 → Rose (reads source) (reads rest)) → (is_gen options.run ≡ true → rest ≡ source) →
       RunEnded left reads taken writes (Some options) n source rest sink sink
   unread_script options n source rest sink which failed same = record {
@@ -339,7 +350,7 @@ module _ {S K : Type 0} (left : S → Option (List ℕ)) (reads : S → ℕ) (ta
   }
 
   -- a script was played, or refused for its fault
-  pub script_read : (options : Options) (n : ℕ) (source rest : S) (sink now : K) (script : List ℕ) → IsScript options (left source) (left rest) script → (is_gen options.run ≡ true → rest ≡ source) →
+  script_read : (options : Options) (n : ℕ) (source rest : S) (sink now : K) (script : List ℕ) → IsScript options (left source) (left rest) script → (is_gen options.run ≡ true → rest ≡ source) →
       ScriptEnded options (parsed_of script) n (taken sink) (taken now) (writes sink) (writes now) → RunEnded left reads taken writes (Some options) n source rest sink now
   script_read options n source rest sink now script is same h = record {
     played = λ e. played_script options (left source) (left rest) (taken sink) (taken now) script is (h.played e);
@@ -357,7 +368,7 @@ module _ {S K : Type 0} (left : S → Option (List ℕ)) (reads : S → ℕ) (ta
   }
 
   -- a script that is too long was refused
-  pub too_long_read : (options : Options) (n : ℕ) (source rest : S) (sink now : K) → (is_gen options.run ≡ false) × Took (left source) (left rest) 1048577 → (is_gen options.run ≡ true → rest ≡ source) →
+  too_long_read : (options : Options) (n : ℕ) (source rest : S) (sink now : K) → (is_gen options.run ≡ false) × Took (left source) (left rest) 1048577 → (is_gen options.run ≡ true → rest ≡ source) →
       ScriptEnded options (Err (at_no_place 9)) n (taken sink) (taken now) (writes sink) (writes now) → RunEnded left reads taken writes (Some options) n source rest sink now
   too_long_read options n source rest sink now long same h = record {
     played = λ e. no_scene (h.played e);
@@ -373,6 +384,12 @@ module _ {S K : Type 0} (left : S → Option (List ℕ)) (reads : S → ℕ) (ta
     prefix = writes_too_long options (left source) (left rest) (taken sink) (taken now) long.0 long.1 h.prefix;
     cut = h.cut;
   }
+
+  -- what a script spells was played, or its fault was told
+  pub spelled_ended : (options : Options) (spelled : Result SceneValue ScriptFault) (n : ℕ) (source rest : S) (sink now : K) → Spells options (left source) (left rest) spelled → (is_gen options.run ≡ true → rest ≡ source) →
+      ScriptEnded options spelled n (taken sink) (taken now) (writes sink) (writes now) → RunEnded left reads taken writes (Some options) n source rest sink now
+  spelled_ended options _ n source rest sink now (spells bytes spelled is parsed) same h = script_read options n source rest sink now bytes is same (spelled_as options (parsed_of bytes) spelled n _ _ _ _ parsed h)
+  spelled_ended options _ n source rest sink now (too_long_to_spell reads took) same h = too_long_read options n source rest sink now (reads, took) same h
 
   -- what holds of the options that the words give
   pub ended_as : (asked : Option Options) (options : Options) (n : ℕ) (source rest : S) (sink now : K) → asked ≡ Some options → RunEnded left reads taken writes (Some options) n source rest sink now →

@@ -7,6 +7,8 @@ use Rattle.sf_app_options.specs.declared.options.Options.{Options}
 use Rattle.sf_script_scene.specs.Scene.{SceneValue}
 use Rattle.law_generated.specs.sf_script.Parse.{parsed_of}
 use Rattle.law_generated.specs.sf_script.declared.fault.ScriptFault.{ScriptFault}
+use Rattle.sf_record_sums.specs.sf_record.declared.encode.RunFault.{RunFault}
+use Rattle.sf_record_sums.specs.sf_record.declared.encode.RunFault.TheVariants as run_fault
 use Rattle.sf_record_sums.specs.sf_record.declared.record.Record.TheVariants as rec
 use Rattle.sf_record_sums.specs.sf_record.declared.record.Record.{Record}
 use Rattle.sf_record_sums.specs.sf_record.Records.{record_bytes}
@@ -45,6 +47,11 @@ at_no_place cause = record { line = 0; word = 0; cause = cause }
 abbrev pub fault_bytes : ScriptFault → List ℕ
 fault_bytes fault = record_bytes (rec.Sflt fault)
 
+-- what the script that was asked for spells: what was read to its end or generated, or a script that is too long
+pub data Spells (options : Options) (left rest : Option (List ℕ)) : Result SceneValue ScriptFault → Type 0 where
+  spells : (bytes : List ℕ) (spelled : Result SceneValue ScriptFault) → IsScript options left rest bytes → parsed_of bytes ≡ spelled → Spells options left rest spelled
+  too_long_to_spell : is_gen options.run ≡ false → Took left rest 1048577 → Spells options left rest (Err (at_no_place 9))
+
 -- all bytes were read and have this fault, or more bytes than a script may have were read
 pub data NoScene (left rest : Option (List ℕ)) : ScriptFault → Type 0 where
   misspelled : (bytes : List ℕ) (fault : ScriptFault) → Consumes left rest bytes → IsAtEnd rest → parsed_of bytes ≡ Err fault → NoScene left rest fault
@@ -68,6 +75,12 @@ PrefixOf options (Err fault) old new = TookPrefix old new (fault_bytes fault)
 abbrev pub WritesPrefix : Option Options → Option (List ℕ) → Option (List ℕ) → Option (List ℕ) → Type 0
 WritesPrefix None left old new = new ≡ old
 WritesPrefix (Some options) left old new = (bytes : List ℕ) → IsTold options left bytes → PrefixOf options (parsed_of bytes) old new
+
+-- the status of a run that wrote all, or ended with a fault
+abbrev pub status_of : Result (Unit {0}) RunFault → ℕ
+status_of (Ok _) = 0
+status_of (Err run_fault.WriteFault) = 4
+status_of (Err run_fault.NoMemory) = 5
 
 -- how a script that spells this was played: what the status says, and what was written whatever it is; the counts are those
 -- of the sink's faults

@@ -10,8 +10,10 @@
 mod laws;
 mod live;
 mod play;
+mod scene;
 mod session;
 mod summary;
+mod turns;
 mod words;
 
 pub use laws::{callers_are_known, one_play};

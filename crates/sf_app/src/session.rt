@@ -10,15 +10,16 @@ ghost use Rattle.sf_script_scene.specs.Scene.{SceneValue};
 ghost use Rattle.law_generated.specs.sf_script.Parse.{parsed_of};
 ghost use Rattle.law_generated.specs.sf_script.declared.fault.ScriptFault.{ScriptFault};
 ghost use Rattle.sf_app.specs.Shown.{ShowsRun, ShowsRunPart};
-ghost use Rattle.sf_app.specs.Statuses.{MeansScript, RunEnded, ScriptEnded, at_no_place};
+ghost use Rattle.sf_app.specs.Statuses.{MeansScript, RunEnded, ScriptEnded, status_of};
 ghost use Rattle.sf_app.specs.Words.{IsTold, tells_place};
 
 use crate::live::live;
-use crate::summary::show;
-use crate::words::script_asked;
-use law_generated::{ParseFault, ScriptFault, parse};
+use crate::play::play;
+use crate::scene::{SceneFault, scene_asked};
+use crate::summary::sum_up;
+use law_generated::ScriptFault;
 use sf_app_options::{Options, OptionsFault, Run};
-use sf_io::{Gate, ReadFault, Sink, Source};
+use sf_io::{Gate, Sink, Source};
 use sf_live::{Engine, Workers};
 use sf_record_sums::{Record, RunFault, write_record};
 use sf_script_scene::Scene;
@@ -44,14 +45,14 @@ const WRITE_FAILED: u8 = 4;
 /// The status of a run that found no memory.
 const NO_MEMORY: u8 = 5;
 
-/// The fault of this cause, which has no place.
-fn at_no_place(cause: u32) -> ScriptFault
-    ensures { result ≡ at_no_place cause }
+/// The status of a run that wrote all, or ended with a fault.
+fn status_of(ended: Result<(), RunFault>) -> u8
+    ensures { result ≡ status_of ended }
 {
-    ScriptFault {
-        line: 0,
-        word: 0,
-        cause,
+    match ended {
+        Ok(()) => DONE,
+        Err(RunFault::WriteFault) => WRITE_FAILED,
+        Err(RunFault::NoMemory) => NO_MEMORY,
     }
 }
 
@@ -91,68 +92,8 @@ fn show_run<R: Threads + Wait + Sync, K: Sink, G: Gate + Sync>(
     };
     match options.run {
         Run::Live => live(&engine, sink, gate, scene, options.intake),
-        Run::Play | Run::Gen => { show(&engine, options.summary, sink, scene) }
-    }
-}
-
-/// Plays a scene, and answers the status of its run.
-fn play_scene<R: Threads + Wait + Sync, K: Sink, G: Gate + Sync>(
-    rt: &R,
-    alloc: Global,
-    options: Options,
-    sink: &mut K,
-    gate: &G,
-    scene: Scene,
-) -> u8
-    requires some { 1 ≤ options.workers }
-    requires few { options.workers ≤ 16 }
-    ensures { ScriptEnded options (Ok scene) result (K.taken sink.old) (K.taken sink.new) (K.faults sink.old) (K.faults sink.new) }
-{
-    match show_run(rt, alloc, options, sink, gate, scene) {
-        Ok(()) => DONE,
-        Err(RunFault::WriteFault) => WRITE_FAILED,
-        Err(RunFault::NoMemory) => NO_MEMORY,
-    }
-}
-
-/// Plays a script, and writes what shows its run, or the place of its fault.
-fn play_script<R: Threads + Wait + Sync, K: Sink, G: Gate + Sync>(
-    rt: &R,
-    alloc: Global,
-    options: Options,
-    script: &[u8],
-    sink: &mut K,
-    gate: &G,
-) -> u8
-    requires some { 1 ≤ options.workers }
-    requires few { options.workers ≤ 16 }
-    ensures { ScriptEnded options (parsed_of script.now) result (K.taken sink.old) (K.taken sink.new) (K.faults sink.old) (K.faults sink.new) }
-{
-    match parse(alloc, script) {
-        Ok(scene) => play_scene(rt, alloc, options, sink, gate, scene),
-        Err(ParseFault::Script(fault)) => refuse(alloc, sink, fault),
-        Err(ParseFault::NoMemory) => NO_MEMORY,
-    }
-}
-
-/// Plays the script that the options ask for.
-fn play_asked<R: Threads + Wait + Sync, S: Source, K: Sink, G: Gate + Sync>(
-    rt: &R,
-    alloc: Global,
-    options: Options,
-    source: &mut S,
-    sink: &mut K,
-    gate: &G,
-) -> u8
-    requires some { 1 ≤ options.workers }
-    requires few { options.workers ≤ 16 }
-    ensures { RunEnded S.left S.faults K.taken K.faults (Some options) result source.old source.new sink.old sink.new }
-{
-    match script_asked(alloc, options, source) {
-        Ok(script) => play_script(rt, alloc, options, &script, sink, gate),
-        Err(ReadFault::Failed) => READ_FAILED,
-        Err(ReadFault::NoMemory) => NO_MEMORY,
-        Err(ReadFault::TooLong) => refuse(alloc, sink, at_no_place(9)),
+        Run::Play | Run::Gen if options.summary => sum_up(&engine, sink, scene),
+        Run::Play | Run::Gen => play(&engine, sink, scene),
     }
 }
 
@@ -168,10 +109,16 @@ fn follow<R: Threads + Wait + Sync, S: Source, K: Sink, G: Gate + Sync>(
     ensures { let asked = options_of (map string_bytes words.now) in
         RunEnded S.left S.faults K.taken K.faults asked result source.old source.new sink.old sink.new }
 {
-    match Options::read(alloc, words) {
-        Ok(options) => play_asked(rt, alloc, options, source, sink, gate),
-        Err(OptionsFault::WrongWords) => WRONG_WORDS,
-        Err(OptionsFault::NoMemory) => NO_MEMORY,
+    let options = match Options::read(alloc, words) {
+        Ok(options) => options,
+        Err(OptionsFault::WrongWords) => return WRONG_WORDS,
+        Err(OptionsFault::NoMemory) => return NO_MEMORY,
+    };
+    match scene_asked(alloc, options, source) {
+        Ok(scene) => status_of(show_run(rt, alloc, options, sink, gate, scene)),
+        Err(SceneFault::Script(fault)) => refuse(alloc, sink, fault),
+        Err(SceneFault::ReadFailed) => READ_FAILED,
+        Err(SceneFault::NoMemory) => NO_MEMORY,
     }
 }
 

@@ -14,7 +14,7 @@ use std::thread::Threads;
 
 /// Plays a scene into sums, and writes the one record of what the records of its play come to. Where
 /// the play does not come to its end, nothing is written.
-fn sum_up<R: Threads + Sync, K: Sink>(
+pub fn sum_up<R: Threads + Sync, K: Sink>(
     engine: &Engine<R>,
     sink: &mut K,
     scene: Scene,
@@ -29,24 +29,5 @@ fn sum_up<R: Threads + Sync, K: Sink>(
         Ok(()) => write_record(engine.alloc, sink, &Record::Summ(tally.summary())),
         // The tally takes all that is written to it.
         Err(_) => Err(RunFault::NoMemory),
-    }
-}
-
-/// Plays a scene, and writes the records of its play, or the one record that sums them up.
-pub fn show<R: Threads + Sync, K: Sink>(
-    engine: &Engine<R>,
-    summary: bool,
-    sink: &mut K,
-    scene: Scene,
-) -> Result<(), RunFault>
-    ensures ok { OnOk result (ShowsPlay summary scene (K.taken sink.old) (K.taken sink.new)) }
-    ensures err { OnErr result (ShowsPart summary scene (K.taken sink.old) (K.taken sink.new)) }
-    ensures later { K.faults sink.old ≤ K.faults sink.new }
-    ensures failed { IsErrOf result WriteFault → Rose (K.faults sink.old) (K.faults sink.new) }
-{
-    if summary {
-        sum_up(engine, sink, scene)
-    } else {
-        play(engine, sink, scene)
     }
 }

@@ -10,12 +10,16 @@ mod words;
 
 use status::told;
 use std::process::ExitCode;
-use streams::answer;
+use streams::{answered, run_over_streams};
 use words::{status_without_words, words};
 
 fn main(rt: HostRuntime) -> ExitCode {
-    ExitCode::from(match words(&rt) {
-        Ok(words) => answer(&rt, &rt, &words),
-        Err(error) => told(&rt, status_without_words(&error)),
+    let words = match words(&rt) {
+        Ok(words) => words,
+        Err(error) => return ExitCode::from(told(&rt, status_without_words(&error))),
+    };
+    ExitCode::from(match answered(&rt, &words) {
+        Some(status) => status,
+        None => told(&rt, run_over_streams(&rt, &rt, &words)),
     })
 }

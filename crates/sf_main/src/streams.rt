@@ -8,9 +8,34 @@ use std::io::{self, BufWriter};
 use std::sync::Wait;
 use std::thread::Threads;
 
+/// Writes a text about the program.
+fn write_text(rt: &HostRuntime, text: &str) -> u8 {
+    match println!(rt; "{}", text) {
+        Ok(()) => 0,
+        Err(_) => WRITE_FAILED,
+    }
+}
+
+/// Answers words that ask for no run, with the status: those that ask about the program, and those that
+/// ask for records on a terminal. It says first where a script is read from a terminal.
+pub fn answered(rt: &HostRuntime, words: &[String]) -> Option<u8> {
+    if let Some(text) = text_about(words) {
+        return Some(told(rt, write_text(rt, text)));
+    }
+    if would_show_records(rt, words) {
+        let _ = eprintln!(rt; "{}", NO_RECORDS);
+        return Some(WRONG_WORDS);
+    }
+    if would_wait_for_typing(rt, words) {
+        let _ = eprintln!(rt; "{}", WAITS);
+    }
+    None
+}
+
 /// A run from standard input to standard output, which is written through a buffer. A flush that fails
-/// at the end is a write that failed.
-fn run_over_streams<R: Threads + Wait + Sync>(
+/// at the end is a write that failed. Threads are started through the second handle, which is the
+/// runtime's own in `main`.
+pub fn run_over_streams<R: Threads + Wait + Sync>(
     rt: &HostRuntime,
     threads: &R,
     words: &[String],
@@ -32,28 +57,4 @@ fn run_over_streams<R: Threads + Wait + Sync>(
         Ok(()) => status,
         Err(_) => WRITE_FAILED,
     }
-}
-
-/// Writes a text about the program.
-fn write_text(rt: &HostRuntime, text: &str) -> u8 {
-    match println!(rt; "{}", text) {
-        Ok(()) => 0,
-        Err(_) => WRITE_FAILED,
-    }
-}
-
-/// Does what the words ask, and answers the status: 0 where it was done. Threads are started through
-/// the second handle, which is the runtime's own in `main`.
-pub fn answer<R: Threads + Wait + Sync>(rt: &HostRuntime, threads: &R, words: &[String]) -> u8 {
-    if let Some(text) = text_about(words) {
-        return told(rt, write_text(rt, text));
-    }
-    if would_show_records(rt, words) {
-        let _ = eprintln!(rt; "{}", NO_RECORDS);
-        return WRONG_WORDS;
-    }
-    if would_wait_for_typing(rt, words) {
-        let _ = eprintln!(rt; "{}", WAITS);
-    }
-    told(rt, run_over_streams(rt, threads, words))
 }

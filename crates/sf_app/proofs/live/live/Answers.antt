@@ -3,5 +3,5 @@ use Rattle.sf_live.proofs.RunLemmas.{ended_wanting}
 use Rattle.sf_live.proofs.CutRuns.{cut_nothing}
 use Rattle.sf_app.proofs.live.live.Goals as goal
 
-pub returns-in-None : goal.returns-in-None
-returns-in-None g c = ended_wanting _ c.args.scene _ _ _ (cut_nothing _ c.args.scene _ _ refl)
+pub returns-in-Err : goal.returns-in-Err
+returns-in-Err g c = ended_wanting _ c.args.scene _ _ _ (cut_nothing _ c.args.scene _ _ refl)
