@@ -2,7 +2,7 @@
 use sf_base::{ActorId, Fence, Rect, SlotId};
 use std::alloc::Global;
 use std::str::SplitWhitespace;
-use test_words::{actor, fence, number32, number64, present_time, rect, slot};
+use test_words::{actor, fence, named, number32, number64, present_time, rect, slot};
 
 /// What a line asks for.
 #[derive(Clone, Copy)]
@@ -82,115 +82,273 @@ pub struct Said {
     pub right: u64,
 }
 
-/// The call of a name.
-fn named(name: &str) -> Option<Call> {
-    Some(match name {
-        "connect" => Call::Connect,
-        "disconnect" => Call::Disconnect,
-        "maxdequeued" => Call::MaxDequeued,
-        "async" => Call::Async,
-        "dequeue" => Call::Dequeue,
-        "dequeuewait" => Call::DequeueWait,
-        "request" => Call::Request,
-        "queue" => Call::Queue,
-        "queue-allowed" => Call::QueueAllowed,
-        "cancel" => Call::Cancel,
-        "cancel-allowed" => Call::CancelAllowed,
-        "detach" => Call::Detach,
-        "detach-allowed" => Call::DetachAllowed,
-        "attach" => Call::Attach,
-        "maxacquired" => Call::MaxAcquired,
-        "abandon" => Call::Abandon,
-        "acquire" => Call::Acquire,
-        "release" => Call::Release,
-        "detachread" => Call::DetachRead,
-        "attachread" => Call::AttachRead,
-        "draw" => Call::Draw,
-        "read" => Call::Read,
-        "see" => Call::See,
-        "show" => Call::Show,
-        "lend" => Call::Lend,
-        "give" => Call::Give,
-        "state" => Call::State,
-        _ => return None,
-    })
+/// How a line asks for a call: what stands after its name where rights are numbers, and where they
+/// are turns; None where a case of that kind can't ask for it.
+#[derive(Clone, Copy)]
+struct Form {
+    call: Call,
+    with_numbers: Option<&'static [Part]>,
+    with_turns: Option<&'static [Part]>,
 }
 
-/// What stands after a call's name where rights are numbers.
-fn parts_with_numbers(call: Call) -> Option<&'static [Part]> {
-    Some(match call {
-        Call::Connect | Call::Disconnect => &[Part::Actor],
-        Call::MaxDequeued | Call::MaxAcquired | Call::Async => &[Part::Count],
-        Call::Abandon | Call::State => &[],
-        Call::Dequeue => &[Part::Actor, Part::Size, Part::Right],
-        Call::Request | Call::Detach | Call::DetachAllowed => {
-            &[Part::Actor, Part::Slot, Part::Number]
-        }
-        Call::Queue | Call::QueueAllowed => &[
-            Part::Actor,
-            Part::Slot,
-            Part::Number,
-            Part::Picture,
-            Part::Size,
-            Part::Time,
-            Part::Crop,
-            Part::Fence,
-            Part::Right,
-        ],
-        Call::Cancel | Call::CancelAllowed => {
-            &[
+/// The forms of all calls, by their names.
+const FORMS: &[(&str, Form)] = &[
+    (
+        "connect",
+        Form {
+            call: Call::Connect,
+            with_numbers: Some(&[Part::Actor]),
+            with_turns: Some(&[]),
+        },
+    ),
+    (
+        "disconnect",
+        Form {
+            call: Call::Disconnect,
+            with_numbers: Some(&[Part::Actor]),
+            with_turns: Some(&[]),
+        },
+    ),
+    (
+        "maxdequeued",
+        Form {
+            call: Call::MaxDequeued,
+            with_numbers: Some(&[Part::Count]),
+            with_turns: Some(&[Part::Count]),
+        },
+    ),
+    (
+        "async",
+        Form {
+            call: Call::Async,
+            with_numbers: Some(&[Part::Count]),
+            with_turns: Some(&[Part::Count]),
+        },
+    ),
+    (
+        "dequeue",
+        Form {
+            call: Call::Dequeue,
+            with_numbers: Some(&[Part::Actor, Part::Size, Part::Right]),
+            with_turns: Some(&[Part::Place, Part::Size]),
+        },
+    ),
+    (
+        "dequeuewait",
+        Form {
+            call: Call::DequeueWait,
+            with_numbers: None,
+            with_turns: Some(&[Part::Place, Part::Size]),
+        },
+    ),
+    (
+        "request",
+        Form {
+            call: Call::Request,
+            with_numbers: Some(&[Part::Actor, Part::Slot, Part::Number]),
+            with_turns: Some(&[Part::Place]),
+        },
+    ),
+    (
+        "queue",
+        Form {
+            call: Call::Queue,
+            with_numbers: Some(&[
+                Part::Actor,
+                Part::Slot,
+                Part::Number,
+                Part::Picture,
+                Part::Size,
+                Part::Time,
+                Part::Crop,
+                Part::Fence,
+                Part::Right,
+            ]),
+            with_turns: Some(&[
+                Part::Place,
+                Part::Picture,
+                Part::Size,
+                Part::Time,
+                Part::Crop,
+                Part::Fence,
+            ]),
+        },
+    ),
+    (
+        "queue-allowed",
+        Form {
+            call: Call::QueueAllowed,
+            with_numbers: Some(&[
+                Part::Actor,
+                Part::Slot,
+                Part::Number,
+                Part::Picture,
+                Part::Size,
+                Part::Time,
+                Part::Crop,
+                Part::Fence,
+                Part::Right,
+            ]),
+            with_turns: None,
+        },
+    ),
+    (
+        "cancel",
+        Form {
+            call: Call::Cancel,
+            with_numbers: Some(&[
                 Part::Actor,
                 Part::Slot,
                 Part::Number,
                 Part::Fence,
                 Part::Right,
-            ]
-        }
-        Call::Attach => &[Part::Actor, Part::Size],
-        Call::Acquire => &[Part::Number],
-        Call::Release => &[Part::Slot, Part::Number, Part::Fence, Part::Right],
-        Call::DetachRead => &[Part::Slot, Part::Number],
-        Call::AttachRead => &[Part::Size],
-        Call::DequeueWait
-        | Call::Draw
-        | Call::Read
-        | Call::See
-        | Call::Show
-        | Call::Lend
-        | Call::Give => return None,
-    })
-}
-
-/// What stands after a call's name where rights are turns.
-fn parts_with_turns(call: Call) -> Option<&'static [Part]> {
-    Some(match call {
-        Call::Connect | Call::Disconnect | Call::Abandon | Call::Lend | Call::Give => &[],
-        Call::MaxDequeued | Call::MaxAcquired | Call::Async => &[Part::Count],
-        Call::Dequeue | Call::DequeueWait => &[Part::Place, Part::Size],
-        Call::Request
-        | Call::Detach
-        | Call::Attach
-        | Call::Read
-        | Call::Show
-        | Call::DetachRead
-        | Call::AttachRead => &[Part::Place],
-        Call::Draw => &[Part::Place, Part::Picture, Part::Size],
-        Call::Queue => &[
-            Part::Place,
-            Part::Picture,
-            Part::Size,
-            Part::Time,
-            Part::Crop,
-            Part::Fence,
-        ],
-        Call::Cancel | Call::Release => &[Part::Place, Part::Fence],
-        Call::Acquire => &[Part::Place, Part::Number],
-        Call::See => &[Part::Count, Part::Number],
-        Call::QueueAllowed | Call::CancelAllowed | Call::DetachAllowed | Call::State => {
-            return None;
-        }
-    })
-}
+            ]),
+            with_turns: Some(&[Part::Place, Part::Fence]),
+        },
+    ),
+    (
+        "cancel-allowed",
+        Form {
+            call: Call::CancelAllowed,
+            with_numbers: Some(&[
+                Part::Actor,
+                Part::Slot,
+                Part::Number,
+                Part::Fence,
+                Part::Right,
+            ]),
+            with_turns: None,
+        },
+    ),
+    (
+        "detach",
+        Form {
+            call: Call::Detach,
+            with_numbers: Some(&[Part::Actor, Part::Slot, Part::Number]),
+            with_turns: Some(&[Part::Place]),
+        },
+    ),
+    (
+        "detach-allowed",
+        Form {
+            call: Call::DetachAllowed,
+            with_numbers: Some(&[Part::Actor, Part::Slot, Part::Number]),
+            with_turns: None,
+        },
+    ),
+    (
+        "attach",
+        Form {
+            call: Call::Attach,
+            with_numbers: Some(&[Part::Actor, Part::Size]),
+            with_turns: Some(&[Part::Place]),
+        },
+    ),
+    (
+        "maxacquired",
+        Form {
+            call: Call::MaxAcquired,
+            with_numbers: Some(&[Part::Count]),
+            with_turns: Some(&[Part::Count]),
+        },
+    ),
+    (
+        "abandon",
+        Form {
+            call: Call::Abandon,
+            with_numbers: Some(&[]),
+            with_turns: Some(&[]),
+        },
+    ),
+    (
+        "acquire",
+        Form {
+            call: Call::Acquire,
+            with_numbers: Some(&[Part::Number]),
+            with_turns: Some(&[Part::Place, Part::Number]),
+        },
+    ),
+    (
+        "release",
+        Form {
+            call: Call::Release,
+            with_numbers: Some(&[Part::Slot, Part::Number, Part::Fence, Part::Right]),
+            with_turns: Some(&[Part::Place, Part::Fence]),
+        },
+    ),
+    (
+        "detachread",
+        Form {
+            call: Call::DetachRead,
+            with_numbers: Some(&[Part::Slot, Part::Number]),
+            with_turns: Some(&[Part::Place]),
+        },
+    ),
+    (
+        "attachread",
+        Form {
+            call: Call::AttachRead,
+            with_numbers: Some(&[Part::Size]),
+            with_turns: Some(&[Part::Place]),
+        },
+    ),
+    (
+        "draw",
+        Form {
+            call: Call::Draw,
+            with_numbers: None,
+            with_turns: Some(&[Part::Place, Part::Picture, Part::Size]),
+        },
+    ),
+    (
+        "read",
+        Form {
+            call: Call::Read,
+            with_numbers: None,
+            with_turns: Some(&[Part::Place]),
+        },
+    ),
+    (
+        "see",
+        Form {
+            call: Call::See,
+            with_numbers: None,
+            with_turns: Some(&[Part::Count, Part::Number]),
+        },
+    ),
+    (
+        "show",
+        Form {
+            call: Call::Show,
+            with_numbers: None,
+            with_turns: Some(&[Part::Place]),
+        },
+    ),
+    (
+        "lend",
+        Form {
+            call: Call::Lend,
+            with_numbers: None,
+            with_turns: Some(&[]),
+        },
+    ),
+    (
+        "give",
+        Form {
+            call: Call::Give,
+            with_numbers: None,
+            with_turns: Some(&[]),
+        },
+    ),
+    (
+        "state",
+        Form {
+            call: Call::State,
+            with_numbers: Some(&[]),
+            with_turns: None,
+        },
+    ),
+];
 
 /// The next word, as the place of a letter: `a` to `h`.
 fn place(words: &mut SplitWhitespace<'_>) -> Option<usize> {
@@ -198,26 +356,54 @@ fn place(words: &mut SplitWhitespace<'_>) -> Option<usize> {
 }
 
 impl Said {
+    /// What says nothing.
+    fn nothing() -> Said {
+        Said {
+            by: ActorId(0),
+            place: usize::MAX,
+            slot: SlotId(0),
+            number: 0,
+            count: 0,
+            picture: 0,
+            width: 0,
+            height: 0,
+            time: None,
+            crop: Rect {
+                x: 0,
+                y: 0,
+                width: 0,
+                height: 0,
+            },
+            fence: Fence::none(),
+            right: 0,
+        }
+    }
+
     /// Reads the words of one part.
     fn read(&mut self, alloc: Global, part: Part, words: &mut SplitWhitespace<'_>) -> Option<()> {
         match part {
-            Part::Actor => self.by = actor(words)?,
-            Part::Place => self.place = place(words)?,
-            Part::Slot => self.slot = slot(words)?,
-            Part::Number => self.number = number64(words)?,
-            Part::Count => self.count = number32(words)?,
-            Part::Picture => self.picture = number32(words)?,
+            Part::Actor => put(&mut self.by, actor(words)),
+            Part::Place => put(&mut self.place, place(words)),
+            Part::Slot => put(&mut self.slot, slot(words)),
+            Part::Number => put(&mut self.number, number64(words)),
+            Part::Count => put(&mut self.count, number32(words)),
+            Part::Picture => put(&mut self.picture, number32(words)),
             Part::Size => {
-                self.width = number32(words)?;
-                self.height = number32(words)?;
+                put(&mut self.width, number32(words))?;
+                put(&mut self.height, number32(words))
             }
-            Part::Time => self.time = present_time(words)?,
-            Part::Crop => self.crop = rect(words)?,
-            Part::Fence => self.fence = fence(alloc, words)?,
-            Part::Right => self.right = number64(words)?,
+            Part::Time => put(&mut self.time, present_time(words)),
+            Part::Crop => put(&mut self.crop, rect(words)),
+            Part::Fence => put(&mut self.fence, fence(alloc, words)),
+            Part::Right => put(&mut self.right, number64(words)),
         }
-        Some(())
     }
+}
+
+/// Puts what was read in its place, if it was.
+fn put<T: Drop>(place: &mut T, read: Option<T>) -> Option<()> {
+    *place = read?;
+    Some(())
 }
 
 /// What the rights of a case are.
@@ -233,32 +419,20 @@ pub fn read(
     rights: Rights,
     words: &mut SplitWhitespace<'_>,
 ) -> Option<(Call, Said)> {
-    let call = named(words.next()?)?;
+    let form = named(FORMS, words.next()?)?;
     let parts = match rights {
-        Rights::Numbers => parts_with_numbers(call)?,
-        Rights::Turns => parts_with_turns(call)?,
+        Rights::Numbers => form.with_numbers,
+        Rights::Turns => form.with_turns,
     };
-    let mut said = Said {
-        by: ActorId(0),
-        place: usize::MAX,
-        slot: SlotId(0),
-        number: 0,
-        count: 0,
-        picture: 0,
-        width: 0,
-        height: 0,
-        time: None,
-        crop: Rect {
-            x: 0,
-            y: 0,
-            width: 0,
-            height: 0,
-        },
-        fence: Fence::none(),
-        right: 0,
-    };
+    let said = said_of(alloc, parts?, words)?;
+    Some((form.call, said))
+}
+
+/// What these words say of a call, part by part.
+fn said_of(alloc: Global, parts: &[Part], words: &mut SplitWhitespace<'_>) -> Option<Said> {
+    let mut said = Said::nothing();
     for part in parts {
         said.read(alloc, *part, words)?;
     }
-    Some((call, said))
+    Some(said)
 }

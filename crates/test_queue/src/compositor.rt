@@ -1,5 +1,5 @@
 //! A compositor that shows frames of the queue on a layer, and can lend their pixels.
-ghost use Rattle.std.specs.Prelude.{◌≡◌, ◌≢◌, true, false};
+ghost use Rattle.std.specs.Prelude.{◌≡◌, ◌≢◌, ◌<◌, ◌-◌, ◌^◌, true, false};
 
 use crate::answer::Answer;
 use crate::tools::Left;
@@ -89,29 +89,33 @@ impl<B: TableName> Compositor<B> {
     }
 
     /// A vsync that takes this transaction.
-    fn vsync(
-        &mut self,
-        txn: Transaction<ReadLease<B>>,
-        seen: &Seen,
-    ) -> Option<Vsync<ReadLease<B>>> {
-        let number = self.count.checked_add(1)?;
-        let mut arrived = Vec::new(self.alloc);
-        arrived
-            .push(Arrived {
-                number,
-                actor: ActorId(1),
-                step: number,
-                txn,
-            })
-            .ok()?;
+    fn vsync(&mut self, txn: Transaction<ReadLease<B>>, seen: &Seen) -> Option<Vsync<ReadLease<B>>>
+        requires { self.old.count < 2 ^ 32 - 1 }
+    {
+        let number = self.count + 1;
+        let arrived = Arrived {
+            number,
+            actor: ActorId(1),
+            step: number,
+            txn,
+        };
+        let Ok(arrived) = vec![in self.alloc; arrived] else {
+            return None;
+        };
         let made = self.handler.vsync(&mut self.seat, arrived, seen, 0);
         self.count = number;
-        made.ok()
+        match made {
+            Ok(vsync) => Some(vsync),
+            Err(_) => None,
+        }
     }
 
     /// A vsync at which a transaction shows this frame of a queue on the layer, once its write has
     /// ended. What it releases is left.
     pub fn show(&mut self, token: Gives<B>, seen: &Seen) -> Left<B> {
+        if self.count == u32::MAX {
+            return (token, Answer::Plain("no number left"));
+        }
         let lease = match token {
             Gives::Read(lease) if lease.frame != 0 => lease,
             token => return (token, Answer::Plain("no such token")),

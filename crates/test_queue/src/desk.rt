@@ -18,6 +18,25 @@ pub enum Caller {
     Second,
 }
 
+/// The numbers of both actors' steps.
+#[derive(Clone, Copy)]
+pub struct Steps {
+    pub first: u32,
+    pub second: u32,
+}
+
+impl Steps {
+    /// The number of a caller's next step, which begins.
+    pub fn next(&mut self, by: Caller) -> u32 {
+        let step = match by {
+            Caller::First => &mut self.first,
+            Caller::Second => &mut self.second,
+        };
+        *step = step.wrapping_add(1);
+        *step
+    }
+}
+
 /// The lock with the passes of both actors.
 #[derive(Drop)]
 pub struct Desk<B: TableName> {
@@ -25,8 +44,6 @@ pub struct Desk<B: TableName> {
     first: Pass<QueueObject<B>>,
     second: Pass<QueueObject<B>>,
     mark: QueueMark,
-    first_step: u32,
-    second_step: u32,
     ghost own: { first.table ≡ lock },
     ghost leads: { first.is_first ≡ true },
     ghost gave: { first.gave ≡ 2 ∷ [] },
@@ -76,32 +93,16 @@ impl<B: TableName> Desk<B> {
             first,
             second,
             mark,
-            first_step: 0,
-            second_step: 0,
         })
     }
 
-    /// Begins a caller's next step.
-    pub fn begin(&mut self, by: Caller) {
-        match by {
-            Caller::First => self.first_step = self.first_step.wrapping_add(1),
-            Caller::Second => self.second_step = self.second_step.wrapping_add(1),
-        }
-    }
-
     /// Makes a call of a caller's step.
-    pub fn call<W: Wait>(&mut self, rt: &W, by: Caller, call: QCall<B>) -> Made<B>
-        requires { PermitFits B.table call }
+    pub fn call<W: Wait>(&mut self, rt: &W, by: Caller, call: (u32, QCall<B>)) -> Made<B>
+        requires { PermitFits B.table call.1 }
     {
         match by {
-            Caller::First => {
-                let asked = (self.first_step, call);
-                ask(rt, &self.lock, &mut self.first, self.mark, asked)
-            }
-            Caller::Second => {
-                let asked = (self.second_step, call);
-                ask(rt, &self.lock, &mut self.second, self.mark, asked)
-            }
+            Caller::First => ask(rt, &self.lock, &mut self.first, self.mark, call),
+            Caller::Second => ask(rt, &self.lock, &mut self.second, self.mark, call),
         }
     }
 
@@ -112,13 +113,11 @@ impl<B: TableName> Desk<B> {
             mut first,
             second,
             mark: _,
-            first_step: _,
-            second_step: _,
         } = self;
         first.meet(&lock, second);
         match lock.close(first) {
             Ok(object) => print_history(rt, &object),
-            Err(_) => println!(rt; "out of memory"),
+            Err(_) => unreachable!(),
         }
     }
 }

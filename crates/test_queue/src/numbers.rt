@@ -6,7 +6,7 @@ ghost use Rattle.sf_slots.specs.Queue.{told_of};
 use crate::call::{Call, Rights, Said, read};
 use crate::reply::{acquired, done, handed_back, known, lent, refused, seated, taken_in};
 use crate::state;
-use sf_base::{ActorId, NoMemory, QueueId};
+use sf_base::{ActorId, NoMemory, QStatus, QueueId};
 use sf_queue::QueueOrder;
 use sf_slots::Slots;
 use std::alloc::Global;
@@ -135,29 +135,39 @@ fn attach(rt: &impl Print, q: &mut Slots<u64>, call: Call, said: &Said) -> io::R
     }
 }
 
-/// Makes a call of the producer, and prints its answer.
-fn produce(
-    rt: &impl Print,
-    alloc: Global,
-    q: &mut Slots<u64>,
-    call: Call,
-    said: Said,
-) -> io::Result<()> {
+fn acquire(rt: &impl Print, q: &mut Slots<u64>, expected: u64) -> io::Result<()> {
+    match sf_consume::acquire(q, expected) {
+        Ok(taken) => acquired(rt, &taken),
+        Err(cause) => refused(rt, cause),
+    }
+}
+
+/// Makes a call that gives nothing out; None for another one.
+fn change(q: &mut Slots<u64>, call: Call, said: &Said) -> Option<Result<(), QStatus>> {
     match call {
-        Call::Connect => done(rt, sf_queue::connect(q, said.by)),
-        Call::Disconnect => done(rt, sf_queue::disconnect(q, said.by)),
-        Call::MaxDequeued => done(rt, sf_queue::set_max_dequeued(q, said.count)),
-        Call::Async => done(rt, sf_queue::set_async(q, said.count == 1)),
-        Call::Dequeue => dequeue(rt, q, &said),
+        Call::Connect => Some(sf_queue::connect(q, said.by)),
+        Call::Disconnect => Some(sf_queue::disconnect(q, said.by)),
+        Call::MaxDequeued => Some(sf_queue::set_max_dequeued(q, said.count)),
+        Call::Async => Some(sf_queue::set_async(q, said.count == 1)),
+        Call::MaxAcquired => Some(sf_consume::set_max_acquired(q, said.count)),
+        Call::Abandon => Some(sf_consume::abandon(q)),
+        Call::Detach => Some(sf_queue::detach(q, said.by, said.slot, said.number)),
+        Call::DetachRead => Some(sf_consume::detach_read(q, said.slot, said.number)),
+        _ => None,
+    }
+}
+
+/// Makes a call that takes no fence, and prints its answer.
+fn make_plain(rt: &impl Print, q: &mut Slots<u64>, call: Call, said: &Said) -> io::Result<()> {
+    if let Some(made) = change(q, call, said) {
+        return done(rt, made);
+    }
+    match call {
+        Call::Dequeue => dequeue(rt, q, said),
         Call::Request => known(rt, sf_queue::request(q, said.by, said.slot, said.number)),
-        Call::Queue | Call::QueueAllowed => queue(rt, alloc, q, call, said),
-        Call::Cancel => taken_in(
-            rt,
-            sf_queue::cancel(q, said.by, said.slot, said.number, said.right, said.fence),
-        ),
-        Call::CancelAllowed => cancel_allowed(rt, q, said),
-        Call::Detach => done(rt, sf_queue::detach(q, said.by, said.slot, said.number)),
-        _ => detach_allowed(rt, q, &said),
+        Call::Acquire => acquire(rt, q, said.number),
+        Call::DetachAllowed => detach_allowed(rt, q, said),
+        _ => attach(rt, q, call, said),
     }
 }
 
@@ -170,19 +180,17 @@ fn make(
     said: Said,
 ) -> io::Result<()> {
     match call {
-        Call::MaxAcquired => done(rt, sf_consume::set_max_acquired(q, said.count)),
-        Call::Abandon => done(rt, sf_consume::abandon(q)),
-        Call::Acquire => match sf_consume::acquire(q, said.number) {
-            Ok(taken) => acquired(rt, &taken),
-            Err(cause) => refused(rt, cause),
-        },
+        Call::Queue | Call::QueueAllowed => queue(rt, alloc, q, call, said),
+        Call::Cancel => taken_in(
+            rt,
+            sf_queue::cancel(q, said.by, said.slot, said.number, said.right, said.fence),
+        ),
+        Call::CancelAllowed => cancel_allowed(rt, q, said),
         Call::Release => taken_in(
             rt,
             sf_consume::release(q, said.slot, said.number, said.right, said.fence),
         ),
-        Call::DetachRead => done(rt, sf_consume::detach_read(q, said.slot, said.number)),
-        Call::Attach | Call::AttachRead => attach(rt, q, call, &said),
-        _ => produce(rt, alloc, q, call, said),
+        _ => make_plain(rt, q, call, &said),
     }
 }
 

@@ -2,7 +2,7 @@
 use sf_base::{Fence, QStatus, SlotId, TimelineId};
 use sf_consume::Acquired;
 use sf_queue::Dequeued;
-use sf_slots::Held;
+use sf_slots::{Held, Item};
 use std::io;
 
 /// The name of a status.
@@ -92,12 +92,17 @@ pub fn seated(rt: &impl Print, made: Result<(SlotId, Held), QStatus>) -> io::Res
     }
 }
 
-/// Prints what a dequeue lends.
-pub fn lent(rt: &impl Print, lent: &Dequeued<u64>) -> io::Result<()> {
+/// Prints the slot and the buffer that a dequeue lends, and whether the buffer is new.
+fn print_lent(rt: &impl Print, lent: &Dequeued<u64>) -> io::Result<()> {
     print!(rt; "slot {}, ", lent.slot.0)?;
     print_buffer(rt, lent.held)?;
     let age = if lent.reallocated { "new" } else { "as it was" };
-    print!(rt; ", {age}")?;
+    print!(rt; ", {age}")
+}
+
+/// Prints what a dequeue lends.
+pub fn lent(rt: &impl Print, lent: &Dequeued<u64>) -> io::Result<()> {
+    print_lent(rt, lent)?;
     print_fence(rt, &lent.fence)?;
     match lent.old {
         Some(right) => println!(rt; ", right {}, the old right {right}", lent.right),
@@ -105,22 +110,36 @@ pub fn lent(rt: &impl Print, lent: &Dequeued<u64>) -> io::Result<()> {
     }
 }
 
-/// Prints the frame that an acquire gives.
-pub fn acquired(rt: &impl Print, taken: &Acquired<u64>) -> io::Result<()> {
-    let item = &taken.item;
+/// Prints a frame that waits: its slot, its buffer, its number and its picture.
+fn print_frame(rt: &impl Print, item: &Item<u64>) -> io::Result<()> {
     print!(rt; "slot {}, ", item.slot.0)?;
     print_buffer(rt, item.held)?;
-    print!(rt; ", frame {}, picture {}, ", item.frame, item.picture)?;
-    match item.time {
-        Some(time) => print!(rt; "time {time}, ")?,
-        None => print!(rt; "no time, ")?,
+    print!(rt; ", frame {}, picture {}, ", item.frame, item.picture)
+}
+
+/// Prints a present time.
+fn print_time(rt: &impl Print, time: Option<u64>) -> io::Result<()> {
+    match time {
+        Some(time) => print!(rt; "time {time}, "),
+        None => print!(rt; "no time, "),
     }
+}
+
+/// Prints whether a frame may be dropped, its crop and its fence.
+fn print_crop(rt: &impl Print, item: &Item<u64>) -> io::Result<()> {
     let mode = if item.droppable { "droppable" } else { "kept" };
     let crop = item.crop;
     print!(rt;
         "{mode}, crop {} {} {} {}",
         crop.x, crop.y, crop.width, crop.height
     )?;
-    print_fence(rt, &item.fence)?;
-    println!(rt; ", right {}, {} dropped", item.right, taken.dropped)
+    print_fence(rt, &item.fence)
+}
+
+/// Prints the frame that an acquire gives.
+pub fn acquired(rt: &impl Print, taken: &Acquired<u64>) -> io::Result<()> {
+    print_frame(rt, &taken.item)?;
+    print_time(rt, taken.item.time)?;
+    print_crop(rt, &taken.item)?;
+    println!(rt; ", right {}, {} dropped", taken.item.right, taken.dropped)
 }

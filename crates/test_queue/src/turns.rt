@@ -5,7 +5,7 @@ use crate::answer;
 use crate::answer::Answer;
 use crate::call::{Rights, read};
 use crate::compositor::Compositor;
-use crate::desk::{Caller, Desk};
+use crate::desk::{Caller, Desk, Steps};
 use crate::run::Run;
 use crate::tools::Tools;
 use sf_base::{NoMemory, Seen};
@@ -70,6 +70,10 @@ fn play_at<B: TableName, R: Print + Wait>(
     let mut run: Run<B> = Run {
         alloc,
         desk,
+        steps: Steps {
+            first: 0,
+            second: 0,
+        },
         tokens,
         tools: Tools::new(seat, stock, PERMITS),
         compositor,

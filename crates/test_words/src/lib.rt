@@ -7,8 +7,10 @@ mod fences;
 mod ids;
 mod numbers;
 mod shapes;
+mod tables;
 
 pub use fences::{fence, point, point_fence};
 pub use ids::{actor, any_layer, layer, slot, timeline, token};
 pub use numbers::{coordinate, flag, number8, number32, number64, present_time};
 pub use shapes::{BufferSize, buffer_size, colour, is_buffer_size, rect};
+pub use tables::named;
