@@ -33,14 +33,14 @@ class Made(unittest.TestCase):
             small_program.write(os.path.join(top, name), text)
 
         with tempfile.TemporaryDirectory() as top:
-            for name in ("sf_app/src/play.rt", "sf_io/src/lib.rt", "sf_io/src/deep/more.rt", "sf_live/src/lib.rt"):
+            for name in ("sf_app/src/play.rt", "sf_app/src/turns.rt", "sf_io/src/lib.rt", "sf_io/src/deep/more.rt", "sf_live/src/lib.rt"):
                 write(f"crates/{name}", "")
             write("crates.txt", "sf_io:\nsf_live:\n")
             sums = [small_program.sum_of(top)]
             os.utime(os.path.join(top, "crates/sf_io/src/lib.rt"), (1, 1))
             write("crates/sf_live/src/lib.rt", "// more")
             self.assertEqual(small_program.sum_of(top), sums[0], "times and what is not used count nothing")
-            for name in ("sf_app/src/play.rt", "sf_io/src/lib.rt", "sf_io/src/deep/more.rt"):
+            for name in ("sf_app/src/play.rt", "sf_app/src/turns.rt", "sf_io/src/lib.rt", "sf_io/src/deep/more.rt"):
                 write(f"crates/{name}", "// more")
                 self.assertNotIn(small_program.sum_of(top), sums, name)
                 sums.append(small_program.sum_of(top))
@@ -64,7 +64,7 @@ class Made(unittest.TestCase):
     def test_each_module_is_there_and_what_it_uses_is_named(self):
         main = self.contents("crates", small_program.NAME, "src", "main.rt")
         modules = re.findall(r"^mod (\w+);", main, re.M)
-        self.assertEqual(sorted(modules), ["play"])
+        self.assertEqual(sorted(modules), ["play", "turns"])
         for module in modules:
             text = self.contents("crates", small_program.NAME, "src", module + ".rt")
             for name in re.findall(r"^use %s::(?:\{([^}]*)\}|(\w+));" % module, main, re.M):

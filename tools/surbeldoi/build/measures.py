@@ -27,12 +27,11 @@ OF_WORKERS = re.compile(r"1 ≤ (?:\w+\.)?workers\b")
 # The frames from `main` of a play to the kernel that blends four pixels, each of which calls the next. A name behind a bar is a closure
 # of the function in front of it, which is called as `f`.
 FRAMES = """
-sf_main: main answer run_over_streams
-sf_app: run follow play_asked play_script play_scene show_run show play play_with
+sf_main: main run_over_streams
+sf_app: run follow show_run play
 sf_play_write: show_play write_play show_actions show_action write_action show_vsync compose_views compose_output compose_on
 sf_output_screen: show compose_over
-sf_compose: compose_by compose_bands compose_by|f compose_band compose_rect compose_area compose_slice compose_shown
-sf_compose: paint_shown paint_parts paint_layer paint_buffer paint_crop paint_crop_row paint_pixels paint_row
+sf_compose: compose_by compose_band compose_rect compose_slice paint_shown paint_layer paint_crop paint_pixels
 sf_rows: blend_row blend_row_blocks row_blocks four_pixels
 """
 

@@ -1,7 +1,7 @@
 """A smaller program than sf_main, made in a folder of its own from the crates as they stand: it plays a script in turns and
 does nothing else, so it is compiled in about half the time.
 
-Its main file is play_scene.txt; how a scene is played it has from a file of sf_app, and all below from the crates
+Its main file is play_scene.txt; how a scene is played it has from files of sf_app, and all below from the crates
 that these use in code that runs, whose sources are copied without what proves them.
 """
 
@@ -16,7 +16,7 @@ HERE = os.path.dirname(os.path.abspath(__file__))
 # (the gate allows a source of Rattle only in a crate, so it has another ending here)
 MAIN, NAME = "play_scene.txt", "play_scene"
 # The modules that are sf_app's.
-MODULES = os.path.join("crates", "sf_app", "src"), ("play.rt",)
+MODULES = os.path.join("crates", "sf_app", "src"), ("play.rt", "turns.rt")
 # What a source uses: the first words of paths, but for comments and for what only contracts cite.
 CITED, USED = re.compile(r"//.*|^\s*ghost use[^;]*;", re.M), re.compile(r"\b(\w+)::")
 # What a crate hands on.
