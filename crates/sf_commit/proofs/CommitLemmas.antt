@@ -9,7 +9,7 @@ use Rattle.sf_view.specs.sf_tree.Changes.{Rejection, after}
 use Rattle.sf_view.specs.sf_tree.Trees.{TreeOf}
 use Rattle.sf_commit_next.specs.sf_txn.Buffers.{Buffer}
 use Rattle.sf_commit_next.specs.sf_txn.Transactions.{shown_by}
-use Rattle.sf_commit.specs.Inside.{Follows, Notes}
+use Rattle.sf_commit.specs.Inside.{Follows, Notes, NotesOps}
 use Rattle.sf_commit.specs.Rounds.{StageOf, accepted, pressed_in, shown_if, stage_with, told_of}
 
 module _ {L : Type 0} where
@@ -31,8 +31,7 @@ module _ {L : Type 0} where
   -- operations that were applied are followed
   pub applied : (old new : StageOf L) (facts later : FactsOf) (ops : List (LayerId × Op)) (buffers : List (Buffer L)) (shown : List (LayerId × Shown)) (next : TreeOf)
       → after old.tree ops ≡ Ok next → new ≡ accepted (record old { tree = next }) ops buffers → shown ≡ map shown_by buffers
-      → ((tree to : TreeOf) → after tree ops ≡ Ok to → HasSame facts.pressed (pressed_in tree.layers) → Notes facts later shown to.layers)
-      → HasSame facts.pressed (pressed_in old.tree.layers) → Follows old new facts later ops buffers (0, 0) (after old.tree ops)
+      → NotesOps ops shown facts later → HasSame facts.pressed (pressed_in old.tree.layers) → Follows old new facts later ops buffers (0, 0) (after old.tree ops)
   applied old new facts later ops buffers shown next made same of noted pressed =
       subst (λ (r : Result TreeOf Rejection). Follows old new facts later ops buffers (0, 0) r) (sym made)
       (same, refl, subst (λ (s : List (LayerId × Shown)). Notes facts later s next.layers) of (noted old.tree next made pressed))

@@ -1,14 +1,16 @@
 -- What arrived, was looked at and decided is one vsync.
-use Rattle.std.proofs.Common.{◌≡◌, ℕ, ◌+◌, ◌<◌, ◌≤◌, Bool, true, false, List, [], ◌∷◌, ◌++◌, map, get_or, refl, sym, subst, arith}
+use Rattle.std.proofs.Common.{◌≡◌, ℕ, ◌+◌, ◌<◌, ◌≤◌, Bool, true, false, List, [], ◌∷◌, ◌++◌, map, get_or, refl, sym, ◌∙◌, subst, append_assoc, arith}
 use Rattle.std.specs.Prelude.{◌==◌}
 use Rattle.std.specs.List.{All, AllZip}
 use Rattle.std.proofs.lemmas.Bool.{eqb-true, eq-eqb}
+use Rattle.std.proofs.lemmas.List.{append-nil}
 use Rattle.std.proofs.lemmas.List.Elements.{All-cons, All-nil}
 use Rattle.sf_commit_next.specs.sf_token.Loads.{IsLookedArrival, looks_at, looks_of}
-use Rattle.sf_commit_next.specs.sf_token.Pending.{Arrival, IsRisingFrom}
+use Rattle.sf_commit_next.specs.sf_token.Pending.{Arrival, IsRisingFrom, QueuesOf}
 use Rattle.sf_commit_next.specs.sf_token.declared.looks.Looks.{Looks}
 use Rattle.sf_commit_next.specs.sf_txn.declared.lease.Lease.{Ghosts}
 use Rattle.sf_commit_next.specs.Next.{AreRising, IsLookedAt, drawn_for}
+use Rattle.sf_commit.specs.Handlers.{last_of}
 
 module _ {L : Type 0} where
   pub lower : (less before last : ℕ) (xs : List (Arrival L)) → less ≤ before → IsRisingFrom before xs last → IsRisingFrom less xs last
@@ -54,3 +56,33 @@ module _ {L E R C : Type 0} (lease : Ghosts L E R C) where
   looked_all before last (x ∷ xs) h =
       All-cons (IsLookedAt lease.shown (looks_of lease (x ∷ xs))) x xs (record { same = rw (eq-eqb x.number x.number refl) refl })
       (λ k d lt. one_more x (get_or xs k d) (looks_of lease xs) (beyond x.number last xs h.1 k d lt) (looked_all x.number last xs h.1 k d lt))
+
+module _ {L : Type 0} where
+  -- what waits after some of what arrived was received, and what of it is left
+  pub record Received (old : QueuesOf L) (arrived : List (Arrival L)) (now : QueuesOf L) (rest : List (Arrival L)) : Type 0 where
+    pub pending : now.pending ++ rest ≡ old.pending ++ arrived
+    pub last : last_of now.last rest ≡ last_of old.last arrived
+    pub rising : IsRisingFrom now.last rest (last_of now.last rest)
+
+  pub received_none : (old : QueuesOf L) (arrived rest : List (Arrival L)) → rest ≡ arrived → IsRisingFrom old.last arrived (last_of old.last arrived) → Received old arrived old rest
+  received_none old arrived rest same rising = subst (Received old arrived old) (sym same) (record { pending = refl; last = refl; rising = rising })
+
+  pub received_above : (old : QueuesOf L) (arrived : List (Arrival L)) (now : QueuesOf L) (before : List (Arrival L)) (one : Arrival L) (rest : List (Arrival L)) → before ≡ one ∷ rest
+      → Received old arrived now before → now.last < one.number
+  received_above old arrived now before one rest steps so =
+      let at : Received old arrived now (one ∷ rest) = subst (Received old arrived now) steps so in
+      at.rising.0
+
+  pub received_more : (old : QueuesOf L) (arrived : List (Arrival L)) (now next : QueuesOf L) (before : List (Arrival L)) (one : Arrival L) (rest : List (Arrival L)) → before ≡ one ∷ rest
+      → next ≡ record { pending = now.pending ++ one ∷ []; last = one.number } → Received old arrived now before → Received old arrived next rest
+  received_more old arrived now next before one rest steps pushed so =
+      let at : Received old arrived now (one ∷ rest) = subst (Received old arrived now) steps so in
+      subst (λ (q : QueuesOf L). Received old arrived q rest) (sym pushed)
+      (record { pending = append_assoc now.pending (one ∷ []) rest ∙ at.pending; last = at.last; rising = at.rising.1 })
+
+  pub received_all : (old : QueuesOf L) (arrived : List (Arrival L)) (now : QueuesOf L) (rest : List (Arrival L)) → rest ≡ [] → Received old arrived now rest
+      → now ≡ record { pending = old.pending ++ arrived; last = last_of old.last arrived }
+  received_all old arrived now rest none so =
+      let at : Received old arrived now [] = subst (Received old arrived now) none so in
+      let pending : now.pending ≡ old.pending ++ arrived = sym (append-nil now.pending) ∙ at.pending in
+      λ i. record { pending = pending i; last = at.last i }

@@ -18,7 +18,7 @@ use Rattle.sf_commit_next.specs.sf_token.Pending.{Arrival, IsRisingFrom, has_num
 use Rattle.sf_commit_next.specs.sf_token.declared.looks.Looks.{Looks}
 use Rattle.sf_commit.proofs.DecideLemmas.{hold_same}
 use Rattle.sf_commit.specs.inner.Deciding.{Comes, IsState}
-use Rattle.sf_commit.specs.inner.Holding.{AreLooks, IsPart, held_of, is_first, told_in}
+use Rattle.sf_commit.specs.inner.Holding.{AreLooks, IsFoundDrawn, IsPart, found_by, held_of, is_first, told_by, told_in}
 use Rattle.sf_commit_next.specs.Next.{IsLookedAt}
 use Rattle.sf_commit.specs.Rounds.{Leads, Round, StageOf, committed, facts_of, held}
 
@@ -60,10 +60,6 @@ composed f h (x ∷ xs) = by_given (f x) (composed f h xs)
     by_given (Some y) same = λ i. cons_option (h y) (same i)
 
 module _ {L : Type 0} where
-  -- the transaction that was looked at, if it is pending
-  abbrev pub found_by : List (Arrival L) → Looks → Option (Arrival L)
-  found_by pending look = find (has_number look.number) pending
-
   -- all that rises from a number is above it
   above : (n : ℕ) (xs : List (Arrival L)) (last : ℕ) → IsRisingFrom n xs last → All (λ (a : Arrival L). n < a.number) xs
   above n [] last h = All-nil (λ (a : Arrival L). n < a.number)
@@ -80,10 +76,6 @@ module _ {L : Type 0} where
       rw (ne_eqb x.number n (λ e. omega (arith, more, e))) (not_found_below n xs (All-tail (λ (a : Arrival L). n < a.number) x xs all))
 
   module _ (drawn : L → Bool) (seen : Seen) (expected : ℕ) (facts : FactsOf) (pending : List (Arrival L)) where
-    -- what is told of the transaction that was looked at
-    abbrev pub told_by : Looks → Option (ℕ × Hold)
-    told_by look = option_and_then (told_in drawn seen expected facts pending) (found_by pending look)
-
     -- what is told, if anything, goes last
     abbrev pub with_told : List (ℕ × Hold) → Option (ℕ × Hold) → List (ℕ × Hold)
     with_told made None = made
@@ -91,24 +83,21 @@ module _ {L : Type 0} where
 
     -- one more look
     pub told_more : (looks : List Looks) (i : ℕ) (look : Looks) (made : List (ℕ × Hold)) (told : Option (ℕ × Hold)) → i < length looks
-        → look ≡ get_or looks i look → told ≡ told_by look → made ≡ filter_map told_by (take i looks)
-        → with_told made told ≡ filter_map told_by (take (i + 1) looks)
+        → look ≡ get_or looks i look → told ≡ told_by drawn seen expected facts pending look → made ≡ filter_map (told_by drawn seen expected facts pending) (take i looks)
+        → with_told made told ≡ filter_map (told_by drawn seen expected facts pending) (take (i + 1) looks)
     told_more looks i look made told h at given same =
+        let tells : Looks → Option (ℕ × Hold) = told_by drawn seen expected facts pending in
         last made told
-        ∙ (ap (λ o. made ++ cons_option o []) (given ∙ ap told_by at)
-        ∙ (ap (λ front. front ++ cons_option (told_by (get_or looks i look)) []) same
-        ∙ (sym (filter_map-append told_by (take i looks) (get_or looks i look ∷ []))
-        ∙ ap (filter_map told_by) (sym (take_more looks i look h)))))
+        ∙ (ap (λ o. made ++ cons_option o []) (given ∙ ap tells at)
+        ∙ (ap (λ front. front ++ cons_option (tells (get_or looks i look)) []) same
+        ∙ (sym (filter_map-append tells (take i looks) (get_or looks i look ∷ []))
+        ∙ ap (filter_map tells) (sym (take_more looks i look h)))))
       where
         last : (front : List (ℕ × Hold)) (o : Option (ℕ × Hold)) → with_told front o ≡ front ++ cons_option o []
         last front None = sym (append-nil front)
         last front (Some x) = refl
 
 module _ {L E R C : Type 0} (lease : Ghosts L E R C) where
-  -- a look showed what the lease shows
-  abbrev pub IsFoundDrawn : List (Arrival L) → Looks → Type 0
-  IsFoundDrawn pending look = IfSome (found_by pending look) (λ (a : Arrival L). look.drawn ≡ map (λ (b : Buffer L). lease.shown b.lease) a.txn.buffers)
-
   -- a lower number more changes nothing of what looks at higher ones find
   skip : (x : Arrival L) (xs ys : List (Arrival L)) → All (λ (a : Arrival L). x.number < a.number) ys
       → filter_map (found_by (x ∷ xs)) (looks_of lease ys) ≡ filter_map (found_by xs) (looks_of lease ys)
@@ -134,34 +123,34 @@ module _ {L E R C : Type 0} (lease : Ghosts L E R C) where
 
   -- nor does it change that they showed what the leases show
   move : (x : Arrival L) (xs ys : List (Arrival L)) → All (λ (a : Arrival L). x.number < a.number) ys
-      → All (IsFoundDrawn xs) (looks_of lease ys) → All (IsFoundDrawn (x ∷ xs)) (looks_of lease ys)
-  move x xs [] all drawn = All-nil (IsFoundDrawn (x ∷ xs))
+      → All (IsFoundDrawn lease xs) (looks_of lease ys) → All (IsFoundDrawn lease (x ∷ xs)) (looks_of lease ys)
+  move x xs [] all drawn = All-nil (IsFoundDrawn lease (x ∷ xs))
   move x xs (y ∷ ys) all drawn =
       let more = All-head (λ (a : Arrival L). x.number < a.number) y ys all in
-      All-cons (IsFoundDrawn (x ∷ xs)) (looks_at lease y) (looks_of lease ys)
-      (rw (ne_eqb x.number y.number (λ e. omega (arith, more, e))) (All-head (IsFoundDrawn xs) (looks_at lease y) (looks_of lease ys) drawn))
-      (move x xs ys (All-tail (λ (a : Arrival L). x.number < a.number) y ys all) (All-tail (IsFoundDrawn xs) (looks_at lease y) (looks_of lease ys) drawn))
+      All-cons (IsFoundDrawn lease (x ∷ xs)) (looks_at lease y) (looks_of lease ys)
+      (rw (ne_eqb x.number y.number (λ e. omega (arith, more, e))) (All-head (IsFoundDrawn lease xs) (looks_at lease y) (looks_of lease ys) drawn))
+      (move x xs ys (All-tail (λ (a : Arrival L). x.number < a.number) y ys all) (All-tail (IsFoundDrawn lease xs) (looks_at lease y) (looks_of lease ys) drawn))
 
   -- each look showed what the leases show of the transaction that it finds
   found_drawn : (n : ℕ) (looked pending : List (Arrival L)) (last : ℕ) → IsRisingFrom n looked last → IsPart pending looked
-      → All (IsFoundDrawn pending) (looks_of lease looked)
-  found_drawn n [] pending last rising part = All-nil (IsFoundDrawn pending)
+      → All (IsFoundDrawn lease pending) (looks_of lease looked)
+  found_drawn n [] pending last rising part = All-nil (IsFoundDrawn lease pending)
   found_drawn n (y ∷ ys) [] last rising part =
-      All-cons (IsFoundDrawn []) (looks_at lease y) (looks_of lease ys) tt (found_drawn y.number ys [] last rising.1 tt)
+      All-cons (IsFoundDrawn lease []) (looks_at lease y) (looks_of lease ys) tt (found_drawn y.number ys [] last rising.1 tt)
   found_drawn n (y ∷ ys) (x ∷ xs) last rising (inl same) =
       let all = subst (λ (k : ℕ). All (λ (a : Arrival L). k < a.number) ys) (ap (λ (a : Arrival L). a.number) (sym same.0)) (above y.number ys last rising.1) in
-      All-cons (IsFoundDrawn (x ∷ xs)) (looks_at lease y) (looks_of lease ys)
+      All-cons (IsFoundDrawn lease (x ∷ xs)) (looks_at lease y) (looks_of lease ys)
       (rw (eq-eqb x.number y.number (ap (λ (a : Arrival L). a.number) same.0))
       (ap (λ (a : Arrival L). map (λ (b : Buffer L). lease.shown b.lease) a.txn.buffers) (sym same.0)))
       (move x xs ys all (found_drawn y.number ys xs last rising.1 same.1))
   found_drawn n (y ∷ ys) (x ∷ xs) last rising (inr later) =
       let none = not_found_below y.number (x ∷ xs) (part_all (λ (a : Arrival L). y.number < a.number) (x ∷ xs) ys later (above y.number ys last rising.1)) in
-      All-cons (IsFoundDrawn (x ∷ xs)) (looks_at lease y) (looks_of lease ys)
+      All-cons (IsFoundDrawn lease (x ∷ xs)) (looks_at lease y) (looks_of lease ys)
       (subst (λ o. IfSome o (λ (a : Arrival L). (looks_at lease y).drawn ≡ map (λ (b : Buffer L). lease.shown b.lease) a.txn.buffers)) (sym none) tt)
       (found_drawn y.number ys (x ∷ xs) last rising.1 later)
 
-  pub all_drawn : (looks : List Looks) (pending : List (Arrival L)) → AreLooks lease looks pending → All (IsFoundDrawn pending) looks
-  all_drawn looks pending are = subst (All (IsFoundDrawn pending)) (sym are.same) (found_drawn 0 are.looked pending are.last are.rising are.part)
+  pub all_drawn : (looks : List Looks) (pending : List (Arrival L)) → AreLooks lease looks pending → All (IsFoundDrawn lease pending) looks
+  all_drawn looks pending are = subst (All (IsFoundDrawn lease pending)) (sym are.same) (found_drawn 0 are.looked pending are.last are.rising are.part)
 
   -- what the looks tell is all that waits
   pub told_all : (seen : Seen) (expected : ℕ) (facts : FactsOf) (looks : List Looks) (pending : List (Arrival L)) → AreLooks lease looks pending

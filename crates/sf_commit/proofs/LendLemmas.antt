@@ -22,8 +22,8 @@ use Rattle.sf_commit_next.specs.sf_txn.Transactions.{without_first}
 use Rattle.sf_commit_next.specs.sf_txn.declared.lease.Lease.{Ghosts}
 use Rattle.sf_commit.proofs.SettleLemmas.{then_after}
 use Rattle.sf_commit.specs.Inside.{cleared, here_of, place_of, taken_from}
-use Rattle.sf_commit.specs.declared.on.Image.{Image}
-use Rattle.sf_commit.specs.declared.on.Image.TheVariants as image
+use Rattle.sf_commit.specs.declared.on.TakenPixels.{TakenPixels}
+use Rattle.sf_commit.specs.declared.on.TakenPixels.TheVariants as taken_pixels
 use Rattle.sf_commit.specs.Leases.{here_if, pictures, pictures_here}
 use Rattle.sf_commit.specs.Lending.{AllKept, AreThere, IsThere, KeptRead, ends_of, is_at, read_of, reads_of}
 use Rattle.sf_commit.specs.OnLayers.{OnLayer, at_hand, brought, gone_with, is_on, lent_from, on_after, without}
@@ -375,12 +375,12 @@ module _ {L E R C : Type 0} (lease : Ghosts L E R C) where
   )
 
 -- the pixels of a read show its picture, wherever they are
-pub taken_is : (slots : List (Option Picture)) (taken : Image) (place : Option ℕ) (picture : Picture) (before after : List Picture) → place_of taken ≡ place
+pub taken_is : (slots : List (Option Picture)) (taken : TakenPixels) (place : Option ℕ) (picture : Picture) (before after : List Picture) → place_of taken ≡ place
     → here_of taken ++ after ≡ here_if place picture ++ before → IfSome place (λ p. get_or slots p None ≡ Some picture) → (taken_from slots taken ≡ Some picture) × (after ≡ before)
-taken_is slots (image.Here painted) None picture before after at here there = let both : painted ∷ after ≡ picture ∷ before = here in (cc, cc)
-taken_is slots (image.Here painted) (Some p) picture before after at here there = cc
-taken_is slots (image.Lent q) None picture before after at here there = cc
-taken_is slots (image.Lent q) (Some p) picture before after at here there = let same : q ≡ p = cc in (ap (λ n. get_or slots n None) same ∙ there, here)
+taken_is slots (taken_pixels.Here painted) None picture before after at here there = let both : painted ∷ after ≡ picture ∷ before = here in (cc, cc)
+taken_is slots (taken_pixels.Here painted) (Some p) picture before after at here there = cc
+taken_is slots (taken_pixels.Lent q) None picture before after at here there = cc
+taken_is slots (taken_pixels.Lent q) (Some p) picture before after at here there = let same : q ≡ p = cc in (ap (λ n. get_or slots n None) same ∙ there, here)
 
 module _ {L : Type 0} where
   -- the next buffer to be lent

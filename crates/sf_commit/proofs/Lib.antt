@@ -10,6 +10,7 @@ pub mod MarkLemmas
 pub mod PlaceLemmas
 pub mod PressedLemmas
 pub mod SettleLemmas
+pub mod ShownLemmas
 pub mod StandingAlong
 pub mod StandingLemmas
 pub mod ValueLemmas

@@ -24,6 +24,7 @@ use Rattle.sf_view.specs.sf_tree.Layers.{has_layer as is_there, has_parent, is_n
 use Rattle.sf_view.specs.sf_tree.Steps.{all_steps, parent_steps, reaches_itself}
 use Rattle.sf_view.specs.sf_tree.Trees.{TreeOf}
 use Rattle.sf_commit.proofs.StandingAlong.{no_cause, same_layers}
+use Rattle.sf_commit.specs.Inside.{PressedByOp, PressedByOps}
 use Rattle.sf_commit.specs.Rounds.{pressed_in}
 
 -- numbers that are equal are equal, and unequal, to the same ones
@@ -286,8 +287,7 @@ pub comes_first : (ops : List (LayerId × Op)) (pressed : List ℕ) → ComesTo 
 comes_first ops pressed = λ most layers next h same. (1, layers, h, same)
 
 pub comes_on : (ops : List (LayerId × Op)) (i : ℕ) (d : LayerId × Op) (old mid new : List ℕ) → i < length ops → ComesTo ops (drop i ops) old mid
-    → ((most : ℕ) (layers next : List Layer) → changed most layers (get_or ops i d).0 (get_or ops i d).1 ≡ Ok next → HasSame mid (pressed_in layers) → HasSame new (pressed_in next))
-    → ComesTo ops (drop (i + 1) ops) old new
+    → PressedByOp (get_or ops i d).0 (get_or ops i d).1 mid new → ComesTo ops (drop (i + 1) ops) old new
 comes_on ops i d old mid new inside comes one = λ most layers next h same.
     let x : LayerId × Op = get_or ops i d in
     let later : drop i ops ≡ x ∷ drop (i + 1) ops =
@@ -296,9 +296,8 @@ comes_on ops i d old mid new inside comes one = λ most layers next h same.
     let (to, made, rest) = first_after most number there x (drop (i + 1) ops) next left in
     (number + 1, to, rest, one most there to made here)
 
-pub comes_all : (ops : List (LayerId × Op)) (i : ℕ) (old new : List ℕ) → length ops ≤ i → ComesTo ops (drop i ops) old new
-    → (tree next : TreeOf) → after tree ops ≡ Ok next → HasSame old (pressed_in tree.layers) → HasSame new (pressed_in next.layers)
-comes_all ops i old new past comes tree next h same =
+pub comes_all : (ops : List (LayerId × Op)) (i : ℕ) (old new : List ℕ) → length ops ≤ i → ComesTo ops (drop i ops) old new → PressedByOps ops old new
+comes_all ops i old new past comes = λ tree next h same.
     let (number, there, left, here) = subst (λ (l : List (LayerId × Op)). ComesTo ops l old new) (drop_all i ops past) comes tree.most tree.layers next.layers (all_after tree next ops h) same in
     subst (λ (layers : List Layer). HasSame new (pressed_in layers)) (let e : there ≡ next.layers = cc in e) here
 

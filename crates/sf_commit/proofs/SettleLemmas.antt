@@ -12,8 +12,8 @@ use Rattle.sf_commit.specs.Lending.{KeepsSome, KeptRead, read_of, reads_of}
 use Rattle.sf_commit.specs.Inside.{ShowsHere, here_of, place_of}
 use Rattle.sf_commit.specs.OnLayers.{OnLayer, shown_on}
 use Rattle.sf_commit.specs.Releases.{ReleaseOf}
-use Rattle.sf_commit.specs.declared.on.Image.{Image}
-use Rattle.sf_commit.specs.declared.on.Image.TheVariants as image
+use Rattle.sf_commit.specs.declared.on.TakenPixels.{TakenPixels}
+use Rattle.sf_commit.specs.declared.on.TakenPixels.TheVariants as taken_pixels
 
 zip_push : {A B : Type 0} (R : A → B → Type 0) (xs : List A) (ys : List B) (x : A) (y : B) → AllZip R xs ys → R x y → AllZip R (xs ++ x ∷ []) (ys ++ y ∷ [])
 zip_push R [] [] x y h r = (r, tt)
@@ -22,12 +22,12 @@ zip_push R (a ∷ xs) [] x y h r = absurd h
 zip_push R (a ∷ xs) (b ∷ ys) x y h r = (h.0, zip_push R xs ys x y h.1 r)
 
 -- pixels that are taken from those at hand show their picture
-pub image_is : (taken : Image) (place : Option ℕ) (picture : Picture) (before after : List Picture) → place_of taken ≡ place → here_of taken ++ after ≡ here_if place picture ++ before
+pub taken_shows : (taken : TakenPixels) (place : Option ℕ) (picture : Picture) (before after : List Picture) → place_of taken ≡ place → here_of taken ++ after ≡ here_if place picture ++ before
     → ShowsHere taken picture × (after ≡ before)
-image_is (image.Here painted) None picture before after at here = let both : painted ∷ after ≡ picture ∷ before = here in (cc, cc)
-image_is (image.Here painted) (Some p) picture before after at here = cc
-image_is (image.Lent q) None picture before after at here = cc
-image_is (image.Lent q) (Some p) picture before after at here = (refl, here)
+taken_shows (taken_pixels.Here painted) None picture before after at here = let both : painted ∷ after ≡ picture ∷ before = here in (cc, cc)
+taken_shows (taken_pixels.Here painted) (Some p) picture before after at here = cc
+taken_shows (taken_pixels.Lent q) None picture before after at here = cc
+taken_shows (taken_pixels.Lent q) (Some p) picture before after at here = (refl, here)
 
 pub some_here : (place : Option ℕ) (picture : Picture) (before : List Picture) → place ≡ None → 0 < length (here_if place picture ++ before)
 some_here None picture before e = omega arith

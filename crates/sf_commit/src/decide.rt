@@ -4,7 +4,7 @@ ghost use Rattle.std.specs.List.{All};
 ghost use Rattle.std.specs.Prelude.{◌≡◌, false, IfOk, OnOk, None, Some};
 ghost use Rattle.sf_base.specs.declared.ids.TokenId.{TokenId};
 ghost use Rattle.sf_commit_next.specs.Asking.{has_token};
-ghost use Rattle.sf_commit.specs.inner.Deciding.{Comes, CommitsOne, round_of};
+ghost use Rattle.sf_commit.specs.inner.Deciding.{ComesFrom, CommitsOne};
 ghost use Rattle.sf_commit_next.specs.Next.{AreRising, IsLookedAt};
 ghost use Rattle.sf_commit.specs.Rounds.{pressed_in};
 ghost use Rattle.sf_commit_next.specs.sf_ready.Facts.{HasSame};
@@ -63,8 +63,7 @@ where
     requires looked { All (IsLookedAt L.shown looks.now) queues.old.pending }
     requires rising { AreRising 0 looks.now }
     requires pressed { HasSame facts.old.pressed (pressed_in stage.old.tree.layers) }
-    ensures comes { OnOk result (Comes L.shown instant.entry.seen.now instant.entry.expected (round_of stage.old queues.old.pending facts.old)
-        stage.new queues.new.pending facts.new) }
+    ensures comes { OnOk result (ComesFrom L.shown instant.entry.seen.now instant.entry.expected stage.old queues.old facts.old stage.new queues.new facts.new) }
     ensures last { queues.new.last ≡ queues.old.last }
 {
     let alloc = stage.alloc;

@@ -1,7 +1,7 @@
 //! The first half of a vsync: what arrived is received, each pending buffer is looked at once, and
 //! all that is ready is committed.
 ghost use Rattle.std.specs.Prelude.{◌≡◌, [], IfOk};
-ghost use Rattle.sf_commit.specs.inner.Following.{DecidesAll};
+ghost use Rattle.sf_commit.specs.inner.Following.{DecidesFrom};
 ghost use Rattle.sf_commit.specs.Handlers.{last_of};
 ghost use Rattle.sf_commit.specs.Rounds.{pressed_in};
 ghost use Rattle.sf_commit_next.specs.sf_ready.Facts.{HasSame};
@@ -18,7 +18,6 @@ use sf_commit_next::{Arrived, Facts, Hold, Instant, Lease, TokenQueues};
 
 /// Takes what arrived, looks once at each pending lease, and commits until nothing is left to
 /// commit, on a stage that nothing was committed on. Returns what the stage is then, and what waits.
-#[tactic(auto, using(crate::proofs::SettleLemmas::eye_same))]
 pub(crate) fn decide_all<L: Lease + Drop>(
     mut stage: Stage<L>,
     queues: &mut TokenQueues<L>,
@@ -36,9 +35,8 @@ where
     requires no_commits { stage.commits ≡ [] }
     requires none_gone { stage.gone ≡ [] }
     requires rising { IsRisingFrom queues.old.last arrived.items (last_of queues.old.last arrived.items) }
-    ensures decides { IfOk result (λ d. DecidesAll L.Lease stage.tree stage.on facts.old queues.old eye.old arrived.items
-        instant.entry.seen.now instant.entry.expected
-        d.0 d.1.items queues.new facts.new eye.new) }
+    ensures decides { IfOk result (DecidesFrom L.Lease stage facts.old queues.old eye.old arrived.items
+        instant.entry.seen.now instant.entry.expected queues.new facts.new eye.new) }
     ensures eye { IsEyeAfter L.Lease eye.old eye.new [] }
 {
     receive(queues, arrived)?;

@@ -57,9 +57,8 @@ pub struct Handler<L: Lease> {
 impl<L: Lease> Model for Handler<L> {
     ghost use Rattle.std.specs.Option.{option_map};
     ghost use Rattle.std.specs.Prelude.{◌≡◌, false, length};
-    ghost use Rattle.std.specs.Vec.{vec_capacity, vec_len};
     ghost use Rattle.sf_commit.specs.Handlers.{HandlerOf, IsKept, lent_pixels};
-    ghost use Rattle.sf_commit.specs.Inside.{HasRoom};
+    ghost use Rattle.sf_commit.specs.Inside.{HasRoomIn};
     ghost use Rattle.sf_commit.specs.Rounds.{pressed_in};
     ghost use Rattle.sf_commit_next.specs.sf_ready.Facts.{HasSame};
 
@@ -90,8 +89,7 @@ impl<L: Lease> Model for Handler<L> {
       lent = option_map (λ lent. lent.value) h.lent;
       kept = h.kept.items;
     }) h.contents.items h.has_changed
-        × HasRoom (length (lent_pixels (option_map (λ lent. lent.value) h.lent))) (length h.on.items) h.has_changed
-        (vec_len h.room.slots, vec_capacity h.room.slots) (vec_len h.room.contents, vec_capacity h.room.contents)
+        × HasRoomIn h.room (length (lent_pixels (option_map (λ lent. lent.value) h.lent))) (length h.on.items) h.has_changed
         × (h.is_spent ≡ false → HasSame h.facts.pressed (pressed_in h.tree.layers)) };
 }
 

@@ -1,9 +1,7 @@
 //! Why each transaction that is still pending waits, asked once a vsync has committed all that was
 //! ready.
-ghost use Rattle.std.specs.Option.{IfSome, option_and_then};
-ghost use Rattle.std.specs.Prelude.{◌≡◌, IfOk, find, map};
-ghost use Rattle.sf_commit.specs.inner.Holding.{AreLooks, held_of, hold_in, is_first, told_in};
-ghost use Rattle.sf_commit_next.specs.sf_token.Pending.{Arrival, has_number};
+ghost use Rattle.std.specs.Prelude.{◌≡◌, IfOk, map};
+ghost use Rattle.sf_commit.specs.inner.Holding.{AreLooks, IsFoundDrawn, held_of, hold_in, is_first, told_by};
 
 use sf_base::NoMemory;
 use sf_commit_next::{Arrived, Facts, Hold, Instant, Lease, Looks, TokenQueues, hold_of};
@@ -41,10 +39,8 @@ fn told_at<L: Lease + Drop>(
     facts: &Facts,
     instant: Instant,
 ) -> Option<(u32, Hold)>
-    requires { IfSome (find (has_number look.now.number) queues.now.pending)
-        (λ (a : Arrival L). look.now.drawn ≡ map (λ buffer. L.shown buffer.lease) a.txn.buffers) }
-    ensures { result ≡ option_and_then (told_in L.shown instant.entry.seen.now instant.entry.expected facts.now queues.now.pending)
-        (find (has_number look.now.number) queues.now.pending) }
+    requires { IsFoundDrawn L.Lease queues.now.pending look.now }
+    ensures { result ≡ told_by L.shown instant.entry.seen.now instant.entry.expected facts.now queues.now.pending look.now }
 {
     let arrived = queues.get(look.number)?;
     let drawn = look.drawn.as_slice();

@@ -5,7 +5,7 @@ ghost use Rattle.std.specs.Vec.{vec_capacity, vec_len};
 ghost use Rattle.sf_commit.specs.Inside.{ShowsHere, place_of};
 ghost use Rattle.sf_commit.specs.Leases.{HandsBack};
 
-use crate::on::Image;
+use crate::on::TakenPixels;
 use sf_base::NoMemory;
 use sf_commit_next::Lease;
 use std::alloc::Global;
@@ -17,7 +17,7 @@ use std::snapshot::Snapshot;
 pub(crate) struct KeptRead<L: Lease> {
     pub opened: Snapshot<L::Reading>,
     pub closing: L::Closing,
-    pub image: Image,
+    pub taken: TakenPixels,
 }
 
 impl<L: Lease> Model for KeptRead<L> {
@@ -26,9 +26,9 @@ impl<L: Lease> Model for KeptRead<L> {
 
     ghost Value = { KeptRead L };
 
-    ghost view = { λ k. record { lease = L.opened k.opened.value; place = place_of k.image } };
+    ghost view = { λ k. record { lease = L.opened k.opened.value; place = place_of k.taken } };
 
-    ghost invariant = { λ k. IsKeptRead L.Lease (L.opened k.opened.value) k.closing k.image };
+    ghost invariant = { λ k. IsKeptRead L.Lease (L.opened k.opened.value) k.closing k.taken };
 }
 
 /// Hands on the lease of a reading, and keeps the read. Out of memory ends the reading.
@@ -36,14 +36,14 @@ pub(crate) fn keep<L: Lease + Drop>(
     alloc: Global,
     kept: &mut Vec<KeptRead<L>>,
     reading: L::Reading,
-    image: Image,
+    taken: TakenPixels,
 ) -> Result<L, NoMemory>
 where
     L::Reading: Drop,
-    requires here { ShowsHere image (L.picture (L.opened reading)) }
+    requires here { ShowsHere taken (L.picture (L.opened reading)) }
     requires room { vec_len kept.old < vec_capacity kept.old }
     ensures handed { IfOk result (HandsBack L.Lease true (L.opened reading)) }
-    ensures kept { OnOk result (kept.new.items ≡ kept.old.items ++ record { lease = L.opened reading; place = place_of image } ∷ []) }
+    ensures kept { OnOk result (kept.new.items ≡ kept.old.items ++ record { lease = L.opened reading; place = place_of taken } ∷ []) }
     ensures back { OnErr result (kept.new.items ≡ kept.old.items) }
     ensures room { vec_capacity kept.new ≡ vec_capacity kept.old }
     ensures len { vec_len kept.new ≤ vec_len kept.old + 1 }
@@ -54,7 +54,7 @@ where
             kept.push_reserved(KeptRead {
                 opened,
                 closing,
-                image,
+                taken,
             });
             Ok(lease)
         }

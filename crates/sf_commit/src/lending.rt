@@ -3,15 +3,15 @@
 ghost use Rattle.std.specs.Prelude.{◌≡◌, ◌+◌, ◌≤◌, ◌++◌, ◌∷◌, [], IsSome, OnOk, if◌then◌else◌};
 ghost use Rattle.std.specs.Prelude.{List, Some, None, false, true, get_or, length, map, slice_set};
 ghost use Rattle.std.specs.Vec.{vec_capacity, vec_len};
-ghost use Rattle.sf_commit.specs.Inside.{HasRoom, cleared, place_of, taken_from};
+ghost use Rattle.sf_commit.specs.Inside.{HasRoomIn, cleared, place_of, taken_from};
 ghost use Rattle.sf_commit.specs.Leases.{pictures, pictures_here};
 ghost use Rattle.sf_commit.specs.Lending.{AllKept, AreThere, IsThere, KeptRead as Kept, ends_of, read_of};
 ghost use Rattle.sf_commit.specs.OnLayers.{at_hand, lent_from};
 ghost use Rattle.sf_commit_next.specs.sf_txn.Leases.{IsEyeAfter};
 
 use crate::keeping::KeptRead;
-use crate::on::Image;
-use crate::opening::{Reading, image_at};
+use crate::on::TakenPixels;
+use crate::opening::{Reading, taken_at};
 use sf_base::NoMemory;
 use sf_commit_next::Lease;
 use sf_view::sf_picture::Painted;
@@ -127,15 +127,15 @@ fn take_slot(slots: &mut Vec<Option<Painted>>, place: usize) -> Painted
 }
 
 /// Takes the pixels of a read: those at hand, or those that came back to its place.
-fn take_painted(slots: &mut Vec<Option<Painted>>, image: Image) -> Painted
-    requires { IsSome (taken_from slots.old.items image) }
-    ensures taken { Some result ≡ taken_from slots.old.items image }
-    ensures left { slots.new.items ≡ cleared slots.old.items (place_of image) }
+fn take_painted(slots: &mut Vec<Option<Painted>>, taken: TakenPixels) -> Painted
+    requires { IsSome (taken_from slots.old.items taken) }
+    ensures taken { Some result ≡ taken_from slots.old.items taken }
+    ensures left { slots.new.items ≡ cleared slots.old.items (place_of taken) }
     ensures room { vec_capacity slots.new ≡ vec_capacity slots.old }
 {
-    match image {
-        Image::Here(painted) => painted,
-        Image::Lent(place) => take_slot(slots, place),
+    match taken {
+        TakenPixels::Here(painted) => painted,
+        TakenPixels::Lent(place) => take_slot(slots, place),
     }
 }
 
@@ -150,9 +150,9 @@ fn leave<L: Lease + Drop>(eye: &mut L::Eye, one: KeptRead<L>, slots: &mut Vec<Op
     let KeptRead {
         opened: _,
         closing,
-        image,
+        taken,
     } = one;
-    let painted = take_painted(slots, image);
+    let painted = take_painted(slots, taken);
     L::close(closing, eye, painted);
 }
 
@@ -215,8 +215,8 @@ fn collect<L: Lease + Drop>(
     let mut contents = room;
     let mut stayed = stayed.into_iter();
     for reading in on {
-        let image = image_at(reading.place, &mut stayed);
-        contents.push_reserved(take_painted(slots, image));
+        let taken = taken_at(reading.place, &mut stayed);
+        contents.push_reserved(take_painted(slots, taken));
     }
     contents
 }
@@ -233,8 +233,7 @@ fn take_back<L: Lease + Drop>(
     requires fits { AllKept (L.fits (L.mark eye.old)) returned.kept.items }
     requires lends { AreThere L.Lease (map (λ picture. Some picture) returned.list.items) (returned.kept.items ++ map read_of on.now) }
     requires stayed { returned.stayed.items ≡ pictures_here L.Lease on.now }
-    requires room { HasRoom (vec_len returned.list) (length on.now) true (vec_len room.old.slots, vec_capacity room.old.slots)
-        (vec_len room.old.contents, vec_capacity room.old.contents) }
+    requires room { HasRoomIn room.old (vec_len returned.list) (length on.now) true }
     ensures contents { result.items ≡ pictures L.Lease on.now }
     ensures reads { IsEyeAfter L.Lease eye.old eye.new (ends_of L.Lease returned.kept.items) }
     ensures no_slots { vec_len room.new.slots ≡ 0 }
@@ -252,7 +251,6 @@ fn take_back<L: Lease + Drop>(
 
 /// Puts pixels back that were lent, leaves the reads that were kept for them, and gives those of all
 /// buffers on layers. They are the ones that were lent where no vsync has changed what is shown.
-#[tactic(auto, using(crate::proofs::SettleLemmas::eye_same))]
 pub(crate) fn put_back<L: Lease + Drop>(
     alloc: Global,
     eye: &mut L::Eye,
@@ -264,8 +262,7 @@ pub(crate) fn put_back<L: Lease + Drop>(
     requires fits { AllKept (L.fits (L.mark eye.old)) returned.kept.items }
     requires lends { AreThere L.Lease (map (λ picture. Some picture) returned.list.items) (returned.kept.items ++ map read_of on.now) }
     requires stayed { returned.stayed.items ≡ pictures_here L.Lease on.now }
-    requires room { HasRoom (vec_len returned.list) (length on.now) has_changed (vec_len room.old.slots, vec_capacity room.old.slots)
-        (vec_len room.old.contents, vec_capacity room.old.contents) }
+    requires room { HasRoomIn room.old (vec_len returned.list) (length on.now) has_changed }
     requires unchanged { has_changed ≡ false → (returned.list.items ≡ pictures L.Lease on.now) × (returned.kept.items ≡ []) }
     ensures contents { result.items ≡ pictures L.Lease on.now }
     ensures reads { IsEyeAfter L.Lease eye.old eye.new (ends_of L.Lease returned.kept.items) }

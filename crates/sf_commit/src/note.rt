@@ -1,13 +1,10 @@
 //! What later decisions rest on: which frames were committed for which layer, and which layers have
 //! backpressure. It is noted at each commit.
-ghost use Rattle.std.specs.Prelude.{◌≡◌, ◌++◌, ◌==◌, ℕ, List, Ok, OnOk, if◌then◌else◌};
+ghost use Rattle.std.specs.Prelude.{◌≡◌, ◌++◌, ◌==◌, OnOk, if◌then◌else◌};
 ghost use Rattle.sf_base.specs.declared.ids.LayerId.{LayerId as LayerIdValue};
-ghost use Rattle.sf_commit.specs.Inside.{Notes};
-ghost use Rattle.sf_commit.specs.Rounds.{frames_in, layers_in, pressed_in};
-ghost use Rattle.sf_view.specs.sf_layer.declared.layer.Layer.{Layer as LayerValue};
+ghost use Rattle.sf_commit.specs.Inside.{NotesOps, PressedByOp, PressedByOps};
+ghost use Rattle.sf_commit.specs.Rounds.{frames_in, layers_in};
 ghost use Rattle.sf_commit_next.specs.sf_ready.Facts.{HasSame, TellsSame, has_layer};
-ghost use Rattle.sf_view.specs.sf_tree.Changes.{after, changed};
-ghost use Rattle.sf_view.specs.sf_tree.Trees.{TreeOf};
 
 use sf_base::{LayerId, NoMemory};
 use sf_commit_next::Facts;
@@ -41,8 +38,7 @@ fn set_pressed(facts: &mut Facts, layer: LayerId, has: bool) -> Result<(), NoMem
 /// An operation was applied to its layer: whether that has backpressure may have changed.
 fn note_op(facts: &mut Facts, layer: LayerId, op: &Op) -> Result<(), NoMemory>
     ensures rest { OnOk result (facts.new ≡ record facts.old { pressed = facts.new.pressed }) }
-    ensures pressed { OnOk result ((most : ℕ) (layers next : List LayerValue) → changed most layers layer op.now ≡ Ok next
-        → HasSame facts.old.pressed (pressed_in layers) → HasSame facts.new.pressed (pressed_in next)) }
+    ensures pressed { OnOk result (PressedByOp layer op.now facts.old.pressed facts.new.pressed) }
 {
     match *op {
         Op::Backpressure(has) => set_pressed(facts, layer, has),
@@ -54,8 +50,7 @@ fn note_op(facts: &mut Facts, layer: LayerId, op: &Op) -> Result<(), NoMemory>
 /// Operations were applied, in their order.
 fn note_ops(facts: &mut Facts, ops: &[(LayerId, Op)]) -> Result<(), NoMemory>
     ensures rest { OnOk result (facts.new ≡ record facts.old { pressed = facts.new.pressed }) }
-    ensures pressed { OnOk result ((tree next : TreeOf) → after tree ops.now ≡ Ok next
-        → HasSame facts.old.pressed (pressed_in tree.layers) → HasSame facts.new.pressed (pressed_in next.layers)) }
+    ensures pressed { OnOk result (PressedByOps ops.now facts.old.pressed facts.new.pressed) }
 {
     for (layer, op) in ops {
         note_op(facts, *layer, op)?;
@@ -69,8 +64,7 @@ pub(crate) fn note(
     shown: &[(LayerId, Shown)],
     ops: &[(LayerId, Op)],
 ) -> Result<(), NoMemory>
-    ensures { OnOk result ((tree next : TreeOf) → after tree ops.now ≡ Ok next
-        → HasSame facts.old.pressed (pressed_in tree.layers) → Notes facts.old facts.new shown.now next.layers) }
+    ensures { OnOk result (NotesOps ops.now shown.now facts.old facts.new) }
 {
     note_shown(facts, shown)?;
     note_ops(facts, ops)

@@ -6,9 +6,9 @@ use sf_view::sf_layer::Shown;
 use sf_view::sf_picture::Painted;
 use std::marker::Model;
 
-/// The pixels of a buffer that the compositor reads.
+/// The pixels that were taken out of a buffer, which the compositor reads.
 #[derive(Drop)]
-pub(crate) enum Image {
+pub(crate) enum TakenPixels {
     /// They are at hand.
     Here(Painted),
     /// They are lent, at this place among those that are.
@@ -19,7 +19,7 @@ pub(crate) enum Image {
 #[derive(Drop)]
 pub(crate) enum Pixels<L: Lease> {
     /// They were taken out when the buffer was first shown.
-    Read(L::Reading, Image),
+    Read(L::Reading, TakenPixels),
     /// A transaction of this vsync brought the right to them, behind this acquire fence.
     Brought(Fence, L),
 }

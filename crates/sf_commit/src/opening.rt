@@ -8,7 +8,7 @@ ghost use Rattle.sf_commit.specs.Leases.{AllOn, IsKnownOn, ShowsLease, here_if, 
 ghost use Rattle.sf_commit.specs.OnLayers.{shown_on};
 ghost use Rattle.sf_commit_next.specs.sf_txn.Leases.{IsEyeAfter};
 
-use crate::on::{Image, OnLayer, Pixels};
+use crate::on::{OnLayer, Pixels, TakenPixels};
 use sf_base::{LayerId, NoMemory};
 use sf_commit_next::Lease;
 use sf_view::sf_layer::Shown;
@@ -48,28 +48,28 @@ impl<L: Lease> Model for Reading<L> {
 }
 
 /// The pixels of a buffer: those that are lent at its place, or the next of these.
-pub(crate) fn image_at(place: Option<usize>, pixels: &mut vec::IntoIter<Painted>) -> Image
+pub(crate) fn taken_at(place: Option<usize>, pixels: &mut vec::IntoIter<Painted>) -> TakenPixels
     requires { place ≡ None → 0 < length pixels.old.rest.items }
     ensures place { place_of result ≡ place }
     ensures here { here_of result ++ pixels.new.rest.items ≡ pixels.old.rest.items }
 {
     match place {
-        Some(place) => Image::Lent(place),
+        Some(place) => TakenPixels::Lent(place),
         None => match pixels.next() {
-            Some(painted) => Image::Here(painted),
+            Some(painted) => TakenPixels::Here(painted),
             None => unreachable!(),
         },
     }
 }
 
 /// Where pixels are lent, and the pixels where they are at hand.
-fn apart(image: Image) -> (Option<usize>, Option<Painted>)
-    ensures place { result.0 ≡ place_of image }
-    ensures here { option_to_list result.1 ≡ here_of image }
+fn apart(taken: TakenPixels) -> (Option<usize>, Option<Painted>)
+    ensures place { result.0 ≡ place_of taken }
+    ensures here { option_to_list result.1 ≡ here_of taken }
 {
-    match image {
-        Image::Here(painted) => (None, Some(painted)),
-        Image::Lent(place) => (Some(place), None),
+    match taken {
+        TakenPixels::Here(painted) => (None, Some(painted)),
+        TakenPixels::Lent(place) => (Some(place), None),
     }
 }
 
@@ -89,8 +89,8 @@ fn open_one<L: Lease + Drop>(eye: &mut L::Eye, one: OnLayer<L>) -> (Reading<L>, 
         pixels,
     } = one;
     let (reading, place, painted) = match pixels {
-        Pixels::Read(reading, image) => {
-            let (place, painted) = apart(image);
+        Pixels::Read(reading, taken) => {
+            let (place, painted) = apart(taken);
             (reading, place, painted)
         }
         Pixels::Brought(_fence, lease) => {
@@ -161,11 +161,11 @@ where
             reading,
             place,
         } = reading;
-        let image = image_at(place, &mut pixels);
+        let taken = taken_at(place, &mut pixels);
         on.push(OnLayer {
             layer,
             shown,
-            pixels: Pixels::Read(reading, image),
+            pixels: Pixels::Read(reading, taken),
         })?;
     }
     Ok(on)

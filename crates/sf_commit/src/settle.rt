@@ -32,7 +32,7 @@ where
     let OnLayer { shown, pixels, .. } = one;
     let (fence, lease) = match pixels {
         Pixels::Brought(fence, lease) => (fence, lease),
-        Pixels::Read(reading, image) => (Fence::none(), keep(alloc, kept, reading, image)?),
+        Pixels::Read(reading, taken) => (Fence::none(), keep(alloc, kept, reading, taken)?),
     };
     Ok(Release {
         queue: shown.queue,
@@ -44,7 +44,6 @@ where
 
 /// All buffers that go are handed back, in their order, and their reads are kept behind the earlier
 /// ones. Out of memory leaves the reads of those that were handed back.
-#[tactic(auto, using(crate::proofs::SettleLemmas::released_none, crate::proofs::SettleLemmas::released_all))]
 pub(crate) fn release_all<L: Lease + Drop>(
     alloc: Global,
     kept: &mut Vec<KeptRead<L>>,

@@ -75,8 +75,7 @@ where
     ensures gone { OnOk result (gone.new.items ≡ gone.old.items ++ gone_with on.old.items ops.now buffers.items) }
 {
     let mut waiting = buffers.into_iter();
-    let mut rest = ops;
-    while let [(layer, op), after @ ..] = rest {
+    for (layer, op) in ops {
         match op {
             Op::Show(_) => {
                 if let Some(buffer) = waiting.next() {
@@ -86,7 +85,6 @@ where
             Op::Destroy => leave(on, gone, *layer)?,
             _ => (),
         }
-        rest = after;
     }
     Ok(())
 }

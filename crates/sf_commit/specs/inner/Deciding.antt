@@ -3,7 +3,7 @@ use Rattle.std.specs.Prelude.{◌≡◌, ℕ, Bool, List, map}
 use Rattle.std.specs.List.{All}
 use Rattle.sf_base.specs.declared.fences.Seen.{Seen}
 use Rattle.sf_commit_next.specs.sf_ready.Facts.{FactsOf, HasSame, TellsSame}
-use Rattle.sf_commit_next.specs.sf_token.Pending.{Arrival}
+use Rattle.sf_commit_next.specs.sf_token.Pending.{Arrival, QueuesOf}
 use Rattle.sf_commit_next.specs.sf_token.declared.looks.Looks.{Looks}
 use Rattle.sf_view.specs.sf_tree.Changes.{after}
 use Rattle.sf_commit_next.specs.sf_txn.Transactions.{shown_by, shows}
@@ -43,6 +43,11 @@ module _ {L : Type 0} where
     pub decided : Decided drawn seen expected begun end
     pub shows : All ShowsIts decided.taken
     pub state : IsState stage pending facts end
+
+  -- the same from a stage, queues and facts on to those that are now
+  abbrev pub ComesFrom : (L → Bool) → Seen → ℕ → StageOf L → QueuesOf L → FactsOf → StageOf L → QueuesOf L → FactsOf → Type 0
+  ComesFrom drawn seen expected stage queues facts stage' queues' facts' =
+      Comes drawn seen expected (round_of stage queues.pending facts) stage' queues'.pending facts'
 
   -- how far it has come: what was committed led to a round, and what waits was looked at
   pub record Goes (drawn : L → Bool) (seen : Seen) (expected : ℕ) (begun : Round L) (looks : List Looks)

@@ -1,6 +1,7 @@
 -- What deciding and settling make, as one vsync puts them together.
 use Rattle.std.specs.Prelude.{◌≡◌, ℕ, ◌≤◌, List, [], ◌++◌, length, map}
 use Rattle.std.specs.List.{All, AllZip}
+use Rattle.std.specs.declared.vec.Vec.{Vec}
 use Rattle.sf_base.specs.declared.fences.Seen.{Seen}
 use Rattle.sf_commit_next.specs.sf_ready.Facts.{FactsOf, HasSame, TellsSame}
 use Rattle.sf_commit_next.specs.sf_ready.declared.hold.Hold.{Hold}
@@ -39,6 +40,12 @@ module _ {L E R C : Type 0} (lease : Ghosts L E R C) where
     pub pressed : HasSame noted.pressed (pressed_in stage.tree.layers)
     pub holds : waits ≡ held lease.shown seen expected end
     pub eye_is : IsEyeAfter lease eye eye' []
+
+  -- the same from a stage on; what is made is the stage that is then, and what waits
+  abbrev pub DecidesFrom : {Z : Type 0} → StageOf L → FactsOf → QueuesOf L → E → List (Arrival L) → Seen → ℕ → QueuesOf L → FactsOf → E
+      → StageOf L × Vec (ℕ × Hold) Z → Type 0
+  DecidesFrom stage facts old eye arrived seen expected new noted eye' made =
+      DecidesAll stage.tree stage.on facts old eye arrived seen expected made.0 made.1.items new noted eye'
 
   -- what goes was handed back and its reads are kept, and what is new is read
   pub record SettlesAll (on gone : List (OnLayer L)) (kept : List (KeptRead L)) (readings : List (OnLayer L)) (contents : List Picture)

@@ -1,5 +1,6 @@
-use Rattle.std.proofs.Common.{◌≡◌, ◌∙◌, ap, subst, refl, true}
+use Rattle.std.proofs.Common.{◌≡◌, ◌∙◌, ap, subst, sym, refl, true}
 use Rattle.std.specs.Option.{IfSome}
+use Rattle.sf_commit_next.specs.sf_ready.Facts.{HasSame}
 use Rattle.sf_commit_next.specs.sf_token.Pending.{QueuesOf}
 use Rattle.sf_commit_next.proofs.AskingLemmas.{enough_after, out_none}
 use Rattle.sf_commit.proofs.DecideLemmas.{begins, ends, goes_on, shrinks}
@@ -7,6 +8,7 @@ use Rattle.sf_commit_next.specs.Asking.{has_token}
 use Rattle.sf_commit.specs.inner.Deciding.{round_of}
 use Rattle.sf_commit_next.specs.Next.{IsNextToken}
 use Rattle.sf_commit_next.specs.Heads.{ready_of}
+use Rattle.sf_commit.specs.Rounds.{StageOf, pressed_in}
 use Rattle.sf_commit.proofs.decide.decide.Goals as goal
 
 pub loop-asking-init : goal.loop-asking-init
@@ -38,3 +40,8 @@ pub returns-clause-comes : goal.returns-clause-comes
 returns-clause-comes g c =
     let none = subst (IsNextToken (ready_of g.L.Lease.shown c.args.instant.seen.now c.args.instant.expected c.loop-asking.facts c.loop-asking.queues.pending)) c.in_default.is c.in_ok-token.ensures.next in
     ends g.L.Lease.shown c.args.instant.seen.now c.args.instant.expected (round_of c.args.stage.now c.args.queues.now.pending c.args.facts.now) c.args.looks.now c.loop-asking.stage c.loop-asking.queues.pending c.loop-asking.facts c.loop-asking.invariant.0 none
+
+pub commit_first-requires : goal.commit_first-requires
+commit_first-requires g c =
+    let state = c.loop-asking.invariant.0.state in
+    record { pressed = subst (λ (s : StageOf g.row.L.Denot). HasSame c.loop-asking.facts.pressed (pressed_in s.tree.layers)) (sym state.made) state.same.pressed }

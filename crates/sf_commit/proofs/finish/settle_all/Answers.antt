@@ -3,6 +3,7 @@ use Rattle.std.specs.List.{All}
 use Rattle.std.proofs.lemmas.List.Elements.{All-nil}
 use Rattle.sf_commit.specs.Leases.{ShowsLease, pictures_here}
 use Rattle.sf_commit.specs.OnLayers.{shown_on}
+use Rattle.sf_commit.proofs.SettleLemmas.{eye_same}
 use Rattle.sf_commit.proofs.finish.settle_all.Goals as goal
 
 pub returns-clause-settles : goal.returns-clause-settles
@@ -17,3 +18,6 @@ returns-clause-settles g c =
       released = c.in_ok-releases.ensures.released;
       kept_are = c.in_ok-releases.ensures.kept;
     }
+
+pub returns-in_err-releases-clause-eye : goal.returns-in_err-releases-clause-eye
+returns-in_err-releases-clause-eye g c = eye_same g.L.Lease c.args.eye.now

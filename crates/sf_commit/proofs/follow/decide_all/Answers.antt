@@ -7,6 +7,7 @@ use Rattle.sf_commit_next.specs.sf_token.Pending.{Arrival, IsRisingFrom, QueuesO
 use Rattle.sf_commit_next.specs.sf_txn.Buffers.{Buffer}
 use Rattle.sf_commit.proofs.FollowLemmas.{looked_all, looks_rise, rising_append, rising_looked}
 use Rattle.sf_commit.proofs.HeldLemmas.{held_is, looks_begin, looks_stay}
+use Rattle.sf_commit.proofs.SettleLemmas.{eye_same}
 use Rattle.sf_commit.specs.Handlers.{last_of}
 use Rattle.sf_commit.specs.inner.Holding.{AreLooks}
 use Rattle.sf_commit_next.specs.Next.{AreRising, IsLookedAt}
@@ -76,3 +77,6 @@ returns-clause-decides g c =
       holds = c.in_ok-waits.ensures ∙ held_is g.L.Lease.shown c.args.instant.seen.now c.args.instant.expected c.decide.new.stage c.decide.new.queues.pending c.decide.new.facts comes.end comes.state;
       eye_is = c.look.ensures.eye;
     }
+
+pub returns-in_err-receive-clause-eye : goal.returns-in_err-receive-clause-eye
+returns-in_err-receive-clause-eye g c = eye_same g.L.Lease c.args.eye.now

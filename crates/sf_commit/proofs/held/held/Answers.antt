@@ -2,7 +2,8 @@ use Rattle.std.proofs.Common.{◌∙◌, Some, None, ap, sym, subst, arith}
 use Rattle.std.specs.List.{filter_map}
 use Rattle.std.proofs.lemmas.List.{take_all}
 use Rattle.std.proofs.lemmas.List.Elements.{All-get_or}
-use Rattle.sf_commit.proofs.HeldLemmas.{IsFoundDrawn, all_drawn, told_all, told_by, told_more}
+use Rattle.sf_commit.proofs.HeldLemmas.{all_drawn, told_all, told_more}
+use Rattle.sf_commit.specs.inner.Holding.{IsFoundDrawn, told_by}
 use Rattle.sf_commit.proofs.held.held.Goals as goal
 use Rattle.sf_commit.proofs.held.held.Goals.{in-Some+in_ok-push, in_default}
 

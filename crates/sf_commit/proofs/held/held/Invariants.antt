@@ -1,6 +1,6 @@
 use Rattle.std.proofs.Common.{◌≡◌, take}
 use Rattle.std.specs.List.{filter_map}
-use Rattle.sf_commit.proofs.HeldLemmas.{told_by}
+use Rattle.sf_commit.specs.inner.Holding.{told_by}
 use Rattle.sf_commit.proofs.held.held.Given as goal
 
 abbrev pub invariant-loop-look : goal.invariant-loop-look

@@ -1,7 +1,8 @@
-use Rattle.std.proofs.Common.{◌∷◌, ◌++◌, [], List, ap, length, refl, subst, arith}
+use Rattle.std.proofs.Common.{◌∷◌, ◌++◌, [], List, ap, length, refl, subst, sym, arith}
 use Rattle.sf_commit.proofs.ListLemmas.{empty_of}
 use Rattle.sf_commit.proofs.SettleLemmas.{Released, released_all, released_more, released_none, released_some}
 use Rattle.sf_commit.specs.OnLayers.{OnLayer}
+use Rattle.sf_commit.specs.Releases.{ReleaseOf}
 use Rattle.sf_commit.proofs.settle.release_all.Goals as goal
 
 pub returns-in_err-reserve-clause-some : goal.returns-in_err-reserve-clause-some
@@ -42,3 +43,16 @@ returns-clause-kept g c =
     let none = empty_of left.items (omega (arith, left.ok.0, c.in-None.ensures.steps.0)) in
     let so = subst (λ rest. Released g.L.Lease c.args.gone.items c.loop-one.releases.items rest c.args.kept.now.items c.loop-one.kept.items) none c.loop-one.invariant.so in
     (released_all g.L.Lease c.args.gone.items c.loop-one.releases.items c.args.kept.now.items c.loop-one.kept.items so).1
+
+pub loop-one-init : goal.loop-one-init
+loop-one-init g c =
+    let rest = c.into_iter-one-iterator.ensures.into_iter_gives.0 in
+    let enough = c.in_ok-reserve.ensures.ok in
+    let many = ap (λ (xs : List (OnLayer g.row.L.Denot)). length xs) rest in
+    record {
+      so = subst (λ (releases : List (ReleaseOf g.row.L.Denot)). Released g.L.Lease c.args.gone.items releases c.into_iter-one-iterator.result.rest.items c.args.kept.now.items c.reserve.new.self.items)
+          (sym c.new-releases.ensures.items)
+          (subst (λ xs. Released g.L.Lease c.args.gone.items [] xs c.args.kept.now.items c.reserve.new.self.items) (sym rest)
+          (released_none g.L.Lease c.args.gone.items c.args.kept.now.items c.reserve.new.self.items c.reserve.ensures.items));
+      room = omega (arith, many, c.args.gone.ok.0, c.len.ensures, enough);
+    }

@@ -1,7 +1,7 @@
 use Rattle.std.proofs.Common.{List, ◌∙◌, ap, get_or, subst, sym, take}
 use Rattle.std.specs.Prelude.{◌≢◌}
 use Rattle.std.proofs.lemmas.Bool.{false≢true}
-use Rattle.std.proofs.lemmas.List.{get_or_default, take_more}
+use Rattle.std.proofs.lemmas.List.{get_or_default, take_all, take_more}
 use Rattle.std.proofs.lemmas.List.Elements.{All-push}
 use Rattle.sf_commit.specs.OnLayers.{AreOthers, OnLayer}
 use Rattle.sf_commit.proofs.sources.index_of_shown.Goals as goal
@@ -23,3 +23,6 @@ returns-then-is_shown g c =
       (λ d. ap (λ (x : OnLayer g.row.L.Denot). x.shown) (get_or_default c.args.on.now c.loop-place.place d one c.loop-place-test.true ∙ sym c.index-on-place.is) ∙ c.is_shown.ensures.0 c.if-is_shown.true),
       c.loop-place.invariant,
     )
+
+pub returns : goal.returns
+returns g c = subst (AreOthers c.args.shown.now) (take_all c.loop-place.place c.args.on.now c.loop-place-test.false) c.loop-place.invariant

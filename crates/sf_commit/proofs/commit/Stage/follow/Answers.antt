@@ -1,6 +1,8 @@
-use Rattle.std.proofs.Common.{◌≡◌, ◌∙◌, List, Ok, ap, sym, subst}
+use Rattle.std.proofs.Common.{◌≡◌, ◌≤◌, ◌∙◌, List, Ok, ap, length, sym, subst}
+use Rattle.std.specs.List.{All}
 use Rattle.sf_base.specs.declared.ids.LayerId.{LayerId}
 use Rattle.sf_view.specs.sf_layer.declared.op.Op.{Op}
+use Rattle.sf_view.specs.sf_layer.Ranges.{IsOperation}
 use Rattle.sf_view.specs.sf_tree.Changes.{after}
 use Rattle.sf_commit.proofs.CommitLemmas.{applied}
 use Rattle.sf_commit.specs.Rounds.{StageOf, accepted}
@@ -19,3 +21,9 @@ returns-in_ok-accept-in-Ok g c =
     c.requires.shown
     (λ before to made same. c.in_ok-note-in-Ok.ensures before to (subst (λ (l : List (LayerId × Op)). after before l ≡ Ok to) (sym c.as_slice-in-Ok.ensures) made) same)
     c.requires.pressed
+
+pub apply-requires-clause-few : goal.apply-requires-clause-few
+apply-requires-clause-few g c = subst (λ (ops : List (LayerId × Op)). length ops ≤ 4294967295) (sym c.as_slice.ensures) c.requires.few
+
+pub apply-requires-clause-in_range : goal.apply-requires-clause-in_range
+apply-requires-clause-in_range g c = subst (λ (ops : List (LayerId × Op)). All IsOperation ops) (sym c.as_slice.ensures) c.requires.in_range

@@ -414,3 +414,6 @@ returns-in_err-on-2-clause-decides g c = IfOk-from_err _ _ c.from_residual-in_er
 
 pub returns-in_err-make-clause-decides : goal.returns-in_err-make-clause-decides
 returns-in_err-make-clause-decides g c = IfOk-from_err _ _ c.from_residual-in_err-make.ensures.0
+
+pub returns-clause-again : goal.returns-clause-again
+returns-clause-again g c = λ again. sym (ap (λ (x : HandlerOf g.row.L.Denot). x.is_spent) (sym c.self.view_is) ∙ c.if-self.false) ∙ again
