@@ -3,7 +3,7 @@ ghost use Rattle.std.specs.Prelude.{◌≡◌, ◌<◌, ◌≤◌, ℕ, pos, ◌
 ghost use Rattle.sf_compose.specs.inner.Painting.{is_in_area};
 ghost use Rattle.sf_base.specs.Geometry.{is_within};
 
-use sf_base::{Rect, clipped};
+use sf_base::{Rect, clipped, is_within};
 
 // The points from one side on and before another, and from one edge on and before another. It is
 // empty where a side or an edge does not stand before the other.
@@ -22,6 +22,13 @@ impl Area {
     {
         (self.left <= x && x < self.right) && (self.top <= y && y < self.bottom)
     }
+}
+
+/// Whether a rectangle has a point.
+pub fn has_point(rect: &Rect, x: u32, y: u32) -> bool
+    ensures { result ≡ (is_within rect.now.x rect.now.width (pos x) && is_within rect.now.y rect.now.height (pos y)) }
+{
+    is_within(rect.x, rect.width, i64::from(x)) && is_within(rect.y, rect.height, i64::from(y))
 }
 
 /// The points of an area that a rectangle has.

@@ -5,7 +5,7 @@ ghost use Rattle.sf_compose.specs.inner.Cover.{HidesBelow, HidesGround, rows_bet
 ghost use Rattle.sf_compose.specs.inner.Painting.{is_in_area};
 ghost use Rattle.sf_compose.specs.inner.Seen.{IsPaintable};
 
-use crate::area::{Area, cut, points_of};
+use crate::area::{Area, cut, has_point, points_of};
 use crate::composition::{Composition, SourcedLayer};
 use crate::contents::read;
 use crate::pixels::Pixels;
@@ -47,18 +47,20 @@ fn hidden_around<C: Pixels>(
     ensures hidden { IfSome result (λ part.
         HidesGround (is_in_area part) (map C.picture composition.now.contents.now) composition.now.view.now.drawn composition.now.sources.now) }
 {
+    if !area.has(x, y) {
+        return None;
+    }
     let layers = composition.drawn();
     let mut at = 0;
     while at < layers.len() {
-        let part = cut(area, &layers[at].clip);
-        if part.has(x, y) {
+        if has_point(&layers[at].clip, x, y) {
             let layer = SourcedLayer {
                 drawn: &layers[at],
                 contents: composition.contents,
                 source: composition.sources[at],
             };
             if hides_below(&layer) {
-                return Some(part);
+                return Some(cut(area, &layers[at].clip));
             }
         }
         at += 1;

@@ -26,5 +26,5 @@ returns-then-hides_below-clause-hidden g c =
     let readable : AreReadable (map g.C.Pixels.picture c.args.composition.now.contents.now) c.drawn-layers.result.now c.args.composition.now.sources.now = rw c.drawn-layers.ensures.drawn c.requires.readable in
     let long = AllZip-long (λ drawn source. IsReadable (map g.C.Pixels.picture c.args.composition.now.contents.now) drawn.content source) c.drawn-layers.result.now c.args.composition.now.sources.now readable.all in
     let within : c.loop-at.at < length c.args.composition.now.sources.now = omega (arith, long, c.loop-at-test.true) in
-    rw c.drawn-layers.ensures.drawn at (HidesGround-one (is_in_area c.cut-part.result) (map g.C.Pixels.picture c.args.composition.now.contents.now) c.drawn-layers.result.now c.args.composition.now.sources.now c.loop-at.at no_layer 0
-    c.loop-at-test.true within (c.hides_below.ensures c.if-hides_below.true) (λ x y t. (and_parts _ _ (sym (c.cut-part.ensures.points x y) ∙ t)).1))
+    rw c.drawn-layers.ensures.drawn at (HidesGround-one (is_in_area c.cut.result) (map g.C.Pixels.picture c.args.composition.now.contents.now) c.drawn-layers.result.now c.args.composition.now.sources.now c.loop-at.at no_layer 0
+    c.loop-at-test.true within (c.hides_below.ensures c.if-hides_below.true) (λ x y t. (and_parts _ _ (sym (c.cut.ensures.points x y) ∙ t)).1))
