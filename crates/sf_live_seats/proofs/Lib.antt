@@ -15,5 +15,6 @@ pub mod PassSend
 pub mod GivenPasses
 pub mod FirstSeatsKept
 pub mod PassTake
+pub mod PlaceSearch
 pub mod VsyncKnowledge
 pub use Rattle.sf_commit.proofs.sf_tree_lemmas

@@ -1,6 +1,6 @@
 -- A caller's seats with their pass at the arrivals again.
 use Rattle.std.proofs.Common.{◌≡◌, ℕ, zero, suc, ◌+◌, ◌<◌, ◌==◌, Bool, true, false, List, [], ◌∷◌, ◌++◌, inl, inr, length, get_or, set, filter, None, Some, arith, ap, ap₂, ◌∙◌, sym, refl, subst}
-use Rattle.std.specs.Prelude.{◌⊎◌, ◌≤◌, Option, is_none, map, Contains}
+use Rattle.std.specs.Prelude.{◌≤◌, Option, is_none, map, Contains}
 use Rattle.std.specs.List.{AllByRecursion, AllZip, position, position_or_len, remove}
 use Rattle.std.proofs.lemmas.Bool.{cases_Bool, eqb-true, eq-eqb}
 use Rattle.std.proofs.lemmas.List.{append-nil, get_or_default, get_or-set_other, get_or-set_same, length-append, length-set, nil_from_length}
@@ -18,6 +18,7 @@ use Rattle.sf_intake.specs.sf_txn.Transactions.{Contents}
 use Rattle.sf_actor.specs.Known.{arrivals_told, is_sent_by}
 use Rattle.sf_live_seats.specs.declared.at_intake.AtIntake.{AtIntake}
 use Rattle.sf_live_seats.specs.declared.at_intake.AtIntake.TheVariants as at
+use Rattle.sf_live_seats.specs.declared.clock.Clock.{Clock}
 use Rattle.sf_live_seats.specs.declared.inbox.Courier.{Courier}
 use Rattle.sf_live_seats.specs.declared.inbox.Inbox.{Inbox}
 use Rattle.sf_live_seats.specs.declared.locks.Locks.{Locks}
@@ -25,11 +26,12 @@ use Rattle.sf_live_seats.specs.declared.outbox.Outbox.{Outbox}
 use Rattle.sf_live_seats.specs.declared.seats.Seats.{Seats}
 use Rattle.sf_live_seats.specs.Arriving.{ArrivalEntry, Arriving}
 use Rattle.sf_live_seats.specs.Inboxes.{AreCouriers, HasAll, IsCourier, IsInbox, is_courier, left_of, number_of, sent_by}
-use Rattle.sf_live_seats.specs.Reuniting.{Reunites}
-use Rattle.sf_live_seats.specs.Seats.{AreSeats, AreWhole, HasSender, IsAtIntake, IsHeard, MaySend, arrivals_known, calls_made, moments_of, pass_at, post_moment, posts_of, sent_in, takes_in}
+use Rattle.sf_live_seats.specs.Reuniting.{MayReunite, Reunites}
+use Rattle.sf_live_seats.specs.Seats.{AreSeats, AreWhole, HasSender, IsAtIntake, IsHeard, MaySend, SendsTo, arrivals_known, calls_made, moments_of, pass_at, post_moment, posts_of, sent_in, takes_in}
 use Rattle.sf_live_seats.proofs.IntakeArrivals.{able_at, has_here, has_later, has_none}
 use Rattle.sf_live_seats.proofs.IntakeHands.{none_there}
 use Rattle.sf_live_seats.proofs.CallOrder.{contains_cons}
+use Rattle.sf_live_seats.proofs.PlaceSearch.{below_next}
 use Rattle.sf_live_seats.proofs.QueuePass.{place_is}
 
 abbrev asking : ArrivalEntry → Arriving → ArrivalEntry
@@ -256,16 +258,6 @@ module _ {B : Type 0} where
       kept = λ none. absurd (let f : true ≡ false = sym (ap is_none none) ∙ untold in cc);
     }
 
--- below the next number is this one, or one below
-below_next : (k n : ℕ) → k < n + 1 → (k < n) ⊎ (k ≡ n)
-below_next zero zero low = inr refl
-below_next zero (suc n) low = inl (omega arith)
-below_next (suc k) zero low = absurd (omega (arith, low))
-below_next (suc k) (suc n) low = elim (below_next k n (omega (arith, low))) [
-  | inl less ↦ inl (omega (arith, less))
-  | inr same ↦ inr (ap suc same)
-]
-
 pub all_places : {X : Type 0} (P : X → Type 0) (xs : List X) → ((k : ℕ) (d : X) → k < length xs → P (get_or xs k d)) → AllByRecursion P xs
 all_places P [] each = tt
 all_places P (x ∷ xs) each = (each 0 x (omega arith), all_places P xs (λ k d low. each (suc k) d (omega (arith, low))))
@@ -341,6 +333,27 @@ module _ {B : Type 0} (buffers : TableId) (locks : Locks B) (none : locks.intake
   reunite_locked (s ∷ ends) may = (reunites_own buffers locks s may.0.own, reunite_locked ends may.1)
 
 module _ {B : Type 0} where
+  sends_to : (locks : Locks B) (intake : ℕ × ℕ) (by : ℕ) (gave : List ℕ) (last : Clock) (at_intake : AtIntake B) → locks.intake ≡ Some intake → IsAtIntake locks by gave last at_intake → SendsTo intake at_intake
+  sends_to locks intake by gave last at.Nothing is way = tt
+  sends_to locks intake by gave last (at.Sends outbox) is way = some_same (sym way.intake ∙ is)
+  sends_to locks intake by gave last (at.Takes inbox) is way = tt
+  sends_to locks intake by gave last at.Finished is way = tt
+
+  -- an inbox may still give passes back where it took nothing more
+  pub still_reunites : (locks : Locks B) (intake : ℕ × ℕ) (old new : Inbox B) → MayReunite locks intake old → new.taker ≡ old.taker → left_of new ≡ left_of old → IsInbox locks.arrivals new → MayReunite locks intake new
+  still_reunites locks intake old new may taker left own = record {
+    own = own;
+    same = ap (λ (t : TakerView ReadLeaseOf). t.intake) taker ∙ may.same;
+    shared = may.shared;
+    none = left ∙ may.none;
+    all = subst (λ (t : TakerView ReadLeaseOf). HasAll t) (sym taker) may.all;
+  }
+
+  -- callers that may send have their senders at the intake that is shared
+  pub all_send_to : (buffers : TableId) (locks : Locks B) (intake : ℕ × ℕ) (ends : List (Seats B)) → locks.intake ≡ Some intake → AllByRecursion (MaySend buffers locks) ends → AllByRecursion (λ (s : Seats B). SendsTo intake s.intake) ends
+  all_send_to buffers locks intake [] is may = tt
+  all_send_to buffers locks intake (s ∷ ends) is may = (sends_to locks intake s.by s.arrivals.gave s.last s.intake is may.0.own.way, all_send_to buffers locks intake ends is may.1)
+
   pub all_heard : (old new : TakerView ReadLeaseOf) (ends : List (Seats B)) → new.heard ≡ old.heard → AllByRecursion (λ (s : Seats B). IsHeard old s.intake) ends → AllByRecursion (λ (s : Seats B). IsHeard new s.intake) ends
   all_heard old new [] same heard = tt
   all_heard old new (s ∷ ends) same heard =

@@ -2,14 +2,15 @@
 use Rattle.std.specs.Prelude.{◌≡◌, ℕ, Bool, true, false, Option, Some, None, List, [], ◌∷◌, map, Contains}
 use Rattle.std.specs.List.{AllByRecursion, AllZip, list_any}
 use Rattle.sf_calls.specs.Histories.{GoesOnWithout, calls_by}
+use Rattle.atomic_table.specs.Seated.{TableId}
 use Rattle.sf_calls.specs.Passes.{TookAll, first_pass}
 use Rattle.sf_calls_stamped.specs.Stamps.{StampsRise, unstamped}
 use Rattle.sf_actor.specs.sf_surface.Objects.{ObjectOf, mark_of}
 use Rattle.sf_times.specs.Views.{SeatView as TimesView}
 use Rattle.sf_turns.specs.Views.{SeatView}
-use Rattle.sf_actor.specs.Desks.{DeskView}
-use Rattle.sf_actor.specs.Known.{is_sent_by}
-use Rattle.sf_actor.specs.Plain.{PlainOf, view_of as plain_view}
+use Rattle.sf_actor.specs.Desks.{DeskView, known_of}
+use Rattle.sf_actor.specs.Known.{GoesOn, is_sent_by}
+use Rattle.sf_actor.specs.Plain.{PlainOf, home_of as plain_home, view_of as plain_view}
 use Rattle.sf_intake.specs.Views.{first_taker}
 use Rattle.sf_live_seats.specs.declared.at_intake.AtIntake.{AtIntake}
 use Rattle.sf_live_seats.specs.declared.at_intake.AtIntake.TheVariants as at
@@ -18,9 +19,24 @@ use Rattle.sf_live_seats.specs.declared.inbox.Inbox.{Inbox}
 use Rattle.sf_live_seats.specs.declared.locks.Locks.{Locks}
 use Rattle.sf_live_seats.specs.declared.locks.QueueLock.{QueueLock}
 use Rattle.sf_live_seats.specs.declared.seats.Seats.{Seats}
+use Rattle.sf_live_seats.specs.Arriving.{ArrivalCalls, ArrivalEntry, ArrivalsPass}
 use Rattle.sf_live_seats.specs.Inboxes.{IsEmpty}
 use Rattle.sf_live_seats.specs.First.{KnowsNothing, gave_of, took_of}
-use Rattle.sf_live_seats.specs.Seats.{QueuePass, QueueEntry, lock_mark, marks_of, tells_of, view_of}
+use Rattle.sf_live_seats.specs.Seats.{QueuePass, QueueEntry, home_of, lock_mark, marks_of, tells_of, view_of}
+
+-- the first pass at the arrivals under this lock, which took in all that it gave
+pub record IsLastAtArrivals (table : TableId) (pass : ArrivalsPass) : Type 0 where
+  pub own : pass.table ≡ table
+  pub is_first : pass.is_first ≡ true
+  pub took_all : TookAll pass.gave pass.took
+
+-- The arrivals that were under a lock have the calls that the first pass knows. They go on from those that each pass knew, with no
+-- further one of its caller, and past the first ones they have none of a caller without a pass.
+pub record AreArrivalsClosed (pass : ArrivalsPass) (arrivals : ArrivalCalls) : Type 0 where
+  pub calls : arrivals ≡ unstamped pass.seen
+  pub rise : StampsRise pass.seen
+  pub taken : (p : ℕ × List ArrivalEntry) → Contains pass.took p → GoesOnWithout p.0 p.1 pass.seen
+  pub callers : (by : ℕ) → (Contains (pass.by ∷ pass.gave) by → ⊥) → calls_by by pass.seen ≡ calls_by by pass.start
 
 module _ {B : Type 0} where
   abbrev pub HasNoCalls : ObjectOf B → Type 0
@@ -85,6 +101,11 @@ module _ {B : Type 0} where
   AreClosed [] [] [] = Unit {0}
   AreClosed (lock ∷ locks) (pass ∷ passes) (object ∷ objects) = IsClosed lock pass object × AreClosed locks passes objects
   AreClosed locks passes objects = ⊥
+
+  -- what each caller knew whose seats were taken in goes on in what the desk knows, without a further entry of that caller
+  abbrev pub AllGoOn : Locks B → FirstSeats B → PlainOf B → Type 0
+  AllGoOn locks first desk = (seats : Seats B) → Contains (took_of first) seats
+      → GoesOn seats.by (known_of (home_of locks seats) (view_of seats)) (known_of (plain_home desk) (plain_view desk))
 
   -- the desk has the queues that were shared, and knows what the first seats know; nobody without seats called on the arrivals
   pub record Closes (locks : Locks B) (first : FirstSeats B) (desk : PlainOf B) : Type 0 where

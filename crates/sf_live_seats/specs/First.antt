@@ -16,6 +16,7 @@ use Rattle.sf_live_seats.specs.declared.locks.Locks.{Locks}
 use Rattle.sf_live_seats.specs.declared.seats.Seats.{Seats}
 use Rattle.sf_live_seats.specs.Arriving.{ArrivalsPass}
 use Rattle.sf_live_seats.specs.Inboxes.{Admits}
+use Rattle.sf_live_seats.specs.Moves.{Stays}
 use Rattle.sf_live_seats.specs.Passes.{KeepsOwn}
 use Rattle.sf_live_seats.specs.Seats.{AreSeats, AreWhole, QueuePass, is_finished, posts_of, view_of}
 
@@ -60,6 +61,10 @@ module _ {B : Type 0} where
     pub times_out : first.seats.times.knows.out + length first.took.items ≡ length (gave_of first)
     pub turns_out : first.seats.turns.out + length first.took.items ≡ length (gave_of first)
     pub took : (seats : Seats B) → Contains (took_of first) seats → IsTaken first.seats buffers locks seats
+
+  -- they are so still after any calls through them
+  abbrev pub StaysFirst : TableId → Locks B → FirstSeats B → FirstSeats B → Type 0
+  StaysFirst buffers locks old new = IsFirst buffers locks old → AreSeats buffers locks new.seats → Stays old.seats new.seats → new.took ≡ old.took → IsFirst buffers locks new
 
   -- all that were given were taken in
   pub record HasAll (first : FirstSeats B) : Type 0 where

@@ -1,5 +1,5 @@
 -- Callers' seats as they are taken in, each with its pass at the arrivals again.
-use Rattle.std.specs.Prelude.{◌≡◌, ℕ, ◌<◌, List, Contains, None}
+use Rattle.std.specs.Prelude.{◌≡◌, ℕ, ◌<◌, List, [], Contains, None, Some}
 use Rattle.sf_calls.specs.Histories.{calls_by}
 use Rattle.sf_calls_stamped.specs.Stamps.{stamp_of}
 use Rattle.sf_actor.specs.sf_surface.Tokens.{ReadLeaseOf}
@@ -9,13 +9,22 @@ use Rattle.sf_intake.specs.sf_txn.Transactions.{Contents}
 use Rattle.sf_actor.specs.Desks.{known_of}
 use Rattle.sf_actor.specs.Known.{share_of}
 use Rattle.sf_live_seats.specs.declared.first.FirstSeats.{FirstSeats}
+use Rattle.sf_live_seats.specs.declared.inbox.Inbox.{Inbox}
 use Rattle.sf_live_seats.specs.declared.locks.Locks.{Locks}
 use Rattle.sf_live_seats.specs.declared.seats.Seats.{Seats}
 use Rattle.sf_live_seats.specs.Arriving.{ArrivalEntry}
-use Rattle.sf_live_seats.specs.Inboxes.{IsLater}
+use Rattle.sf_live_seats.specs.Inboxes.{HasAll, IsInbox, IsLater, left_of}
 use Rattle.sf_live_seats.specs.Seats.{home_of, moments_of, view_of}
 
 module _ {B : Type 0} where
+  -- an inbox at this intake of what is shared, which took all that it heard of and put it among the arrivals: it may give passes back
+  pub record MayReunite (locks : Locks B) (intake : ℕ × ℕ) (inbox : Inbox B) : Type 0 where
+    pub own : IsInbox locks.arrivals inbox
+    pub same : inbox.taker.intake ≡ intake
+    pub shared : locks.intake ≡ Some intake
+    pub none : left_of inbox ≡ []
+    pub all : HasAll inbox.taker
+
   -- a call on the arrivals that sends, with a stamp above those of all that its caller did in steps before
   pub record SendsAfter (seats : Seats B) (e : ArrivalEntry) : Type 0 where
     pub step : ℕ

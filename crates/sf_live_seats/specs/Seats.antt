@@ -19,6 +19,7 @@ use Rattle.sf_live_seats.specs.declared.clock.Clock.{Clock}
 use Rattle.sf_live_seats.specs.declared.locks.Locks.{Locks}
 use Rattle.sf_live_seats.specs.declared.locks.QueueLock.{QueueLock}
 use Rattle.sf_live_seats.specs.declared.seats.Seats.{Seats}
+use Rattle.sf_live_seats.specs.declared.seats.SeatsParts.{SeatsParts}
 use Rattle.sf_live_seats.specs.declared.at_intake.AtIntake.{AtIntake}
 use Rattle.sf_live_seats.specs.declared.at_intake.AtIntake.TheVariants as at
 use Rattle.sf_live_seats.specs.declared.inbox.Inbox.{Inbox}
@@ -35,6 +36,19 @@ mark_in None = no_mark
 mark_in (Some mark) = mark
 
 module _ {B : Type 0} where
+  -- the seats of these parts
+  abbrev pub whole_of : SeatsParts B → Seats B
+  whole_of parts = record {
+    by = parts.by;
+    last = parts.last;
+    queues = parts.queues;
+    arrivals = parts.arrivals;
+    pass = parts.pass;
+    intake = parts.intake;
+    times = parts.times;
+    turns = parts.turns;
+  }
+
   -- what the queue under a lock was made with
   abbrev pub lock_mark : QueueLock B → QueueMark
   lock_mark lock = mark_of lock.opened.value
@@ -163,6 +177,13 @@ module _ {B : Type 0} where
   is_finished (at.Sends outbox) = false
   is_finished (at.Takes inbox) = false
   is_finished at.Finished = true
+
+  -- a caller's sender, where it has one, is of this intake
+  abbrev pub SendsTo : ℕ × ℕ → AtIntake B → Type 0
+  SendsTo intake at.Nothing = Unit {0}
+  SendsTo intake (at.Sends outbox) = outbox.sender.intake ≡ intake
+  SendsTo intake (at.Takes inbox) = Unit {0}
+  SendsTo intake at.Finished = Unit {0}
 
   -- what a caller sent through its sender was heard
   abbrev pub IsHeard : TakerView ReadLeaseOf → AtIntake B → Type 0

@@ -81,6 +81,7 @@ impl<B: TableName> Object for StampedArrivals<B> {
 
 impl<B: TableName> Drop for StampedArrivals<B> {
     fn drop(self) {
-        let StampedArrivals { of: _ } = self;
+        let StampedArrivals { of } = self;
+        let _arrivals = of.into_object();
     }
 }

@@ -8,12 +8,13 @@ ghost use Rattle.sf_live_seats.specs.Calls.{IsMade, MadeOne, SentOne, Ticks, Wai
 ghost use Rattle.sf_live_seats.specs.Seats.{IsPassOf, lock_mark, moment, sent_in, takes_in};
 
 use crate::arrivals::StampedArrivals;
+use crate::arrivals_seat::ArrivalsSeat;
 use crate::clock::Clock;
 use crate::locks::QueueLock;
 use crate::queue_seat::QueueSeat;
 use sf_actor::{QCall, QReply, ReadLease};
 use sf_base::NoMemory;
-use sf_calls::{CallFault, CallLock, Pass};
+use sf_calls::{CallFault, CallLock};
 use sf_intake::{ArriveCall, ArriveReply, Transaction};
 use sf_turns::TableName;
 use std::sync::Wait;
@@ -58,7 +59,7 @@ pub(crate) fn call_one<R: Wait, B: TableName>(
 pub(crate) fn send_one<R: Wait, B: TableName>(
     rt: &R,
     lock: &CallLock<StampedArrivals<B>>,
-    pass: &mut Pass<StampedArrivals<B>>,
+    pass: &mut ArrivalsSeat<B>,
     last: &mut Clock,
     step: u32,
     txn: Transaction<ReadLease<B>>,

@@ -13,6 +13,7 @@ ghost use Rattle.sf_live_seats.specs.Observers.{SeatGoesOn};
 ghost use Rattle.sf_live_seats.specs.Seats.{sent_in};
 
 use crate::arrivals::StampedArrivals;
+use crate::arrivals_seat::ArrivalsSeat;
 use crate::at_intake::AtIntake;
 use crate::clock::Clock;
 use crate::locks::Locks;
@@ -20,7 +21,7 @@ use crate::seats::Seats;
 use crate::shown::Shown;
 use sf_actor::ReadLease;
 use sf_base::{NoMemory, Seen};
-use sf_calls::{CallFault, CallLock, Pass};
+use sf_calls::{CallFault, CallLock};
 use sf_commit::{Committed, Contents, Handler};
 use sf_intake::{ArriveCall, ArriveReply, Arrived, Batch, Lease};
 use sf_turns::sf_picture::Painted;
@@ -31,7 +32,7 @@ use std::sync::Wait;
 fn take_one<R: Wait, B: TableName>(
     rt: &R,
     lock: &CallLock<StampedArrivals<B>>,
-    pass: &mut Pass<StampedArrivals<B>>,
+    pass: &mut ArrivalsSeat<B>,
     last: &mut Clock,
 ) -> Result<Vec<Arrived<ReadLease<B>>>, NoMemory>
     requires own { pass.old.table ≡ lock.now }

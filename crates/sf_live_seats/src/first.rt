@@ -6,7 +6,7 @@ ghost use Rattle.sf_calls.specs.Passes.{given, giving};
 ghost use Rattle.sf_live_seats.specs.First.{HandsOut, MayHandOut};
 ghost use Rattle.sf_live_seats.specs.Passes.{IsAt, IsFirstPass, KeepsOwn, MayGive, all_met};
 
-use crate::arrivals::StampedArrivals;
+use crate::arrivals_seat::ArrivalsSeat;
 use crate::at_intake::AtIntake;
 use crate::clock::Clock;
 use crate::locks::{Locks, QueueLock};
@@ -15,7 +15,6 @@ use crate::queue_seat::QueueSeat;
 use crate::seats::{Seats, SeatsParts};
 use crate::shown::Shown;
 use sf_base::NoMemory;
-use sf_calls::Pass;
 use sf_turns::TableName;
 use std::alloc::Global;
 use std::snapshot::Snapshot;
@@ -56,8 +55,8 @@ fn hand_out<B: TableName>(
     locks: &Locks<B>,
     first: &mut AtIntake<B>,
     by: u32,
-    pass: Pass<StampedArrivals<B>>,
-) -> Result<(Option<Pass<StampedArrivals<B>>>, AtIntake<B>), NoMemory>
+    pass: ArrivalsSeat<B>,
+) -> Result<(Option<ArrivalsSeat<B>>, AtIntake<B>), NoMemory>
     requires may { MayHandOut locks.now by first.old }
     ensures { IfOk result (λ given. HandsOut by pass first.old first.new given.0 given.1) }
 {

@@ -5,10 +5,11 @@ ghost use Rattle.std.specs.List.{AllByRecursion, AllZip, position};
 ghost use Rattle.std.specs.Vec.Iter.{into_iter_items};
 ghost use Rattle.sf_intake.specs.Views.{new_sender};
 ghost use Rattle.sf_live_seats.specs.Inboxes.{Admits, Carries, GaveMore, HasAll, HasCouriers, Hears, IsAbleTo, IsEmpty, IsInbox, IsLater, IsSameInbox, is_courier, left_of};
-ghost use Rattle.sf_live_seats.specs.Reuniting.{Reunites};
-ghost use Rattle.sf_live_seats.specs.Seats.{AreWhole, IsHeard, MaySend};
+ghost use Rattle.sf_live_seats.specs.Reuniting.{MayReunite, Reunites};
+ghost use Rattle.sf_live_seats.specs.Seats.{AreWhole, IsHeard, MaySend, SendsTo};
 
 use crate::arrivals::StampedArrivals;
+use crate::arrivals_seat::ArrivalsSeat;
 use crate::at_intake::AtIntake;
 use crate::calls::send_one;
 use crate::clock::Clock;
@@ -17,7 +18,7 @@ use crate::seats::Seats;
 use crate::shown::Shown;
 use sf_actor::ReadLease;
 use sf_base::{ActorId, NoMemory};
-use sf_calls::{CallLock, Pass};
+use sf_calls::CallLock;
 use sf_intake::{Arrived, Intake, Sender, Taker, Transaction};
 use sf_turns::TableName;
 use std::alloc::Global;
@@ -35,7 +36,7 @@ const MOST_TAKEN: usize = 4096;
 #[derive(Drop)]
 pub struct Courier<B: TableName> {
     pub(crate) by: u32,
-    pub(crate) pass: Pass<StampedArrivals<B>>,
+    pub(crate) pass: ArrivalsSeat<B>,
 }
 
 /// What the first caller takes from an intake with, and the passes through which it puts what it took
@@ -78,7 +79,13 @@ impl<B: TableName> Courier<B> {
 fn place_of<B: TableName>(couriers: &[Courier<B>], by: u32) -> Option<usize>
     ensures { result ≡ position (is_courier by) couriers.now }
 {
-    couriers.iter().position(|courier| courier.by == by)
+    for place in 0..couriers.len() {
+        let courier = &couriers[place];
+        if courier.by == by {
+            return Some(place);
+        }
+    }
+    None
 }
 
 /// The oldest of what is left.
@@ -116,7 +123,7 @@ impl<B: TableName> Inbox<B> {
         &mut self,
         intake: &Intake<ReadLease<B>, Brand>,
         by: u32,
-        pass: Pass<StampedArrivals<B>>,
+        pass: ArrivalsSeat<B>,
     ) -> Result<Sender<ReadLease<B>>, NoMemory>
         requires own { self.old.taker.intake ≡ intake.now }
         requires fresh { Contains self.old.taker.made by → ⊥ }
@@ -256,37 +263,29 @@ impl<B: TableName> Inbox<B> {
 }
 
 impl<B: TableName> Inbox<B> {
-    /// The taker hears what a caller sent.
-    fn hear(&mut self, locks: &Locks<B>, intake: &Intake<ReadLease<B>, Brand>, seats: &mut Seats<B>)
+    /// The taker hears what a caller sent, where it has a sender.
+    fn hear(&mut self, intake: &Intake<ReadLease<B>, Brand>, at_intake: &mut AtIntake<B>)
         requires own { self.old.taker.intake ≡ intake.now }
-        requires intake { locks.now.intake ≡ Some intake.now }
-        requires theirs { MaySend B.table locks.now seats.old }
+        requires theirs { SendsTo intake.now at_intake.old }
         ensures hears { Hears self.old self.new }
-        ensures same { seats.new ≡ seats.old }
-        ensures heard { IsHeard self.new.taker seats.old.intake }
+        ensures same { at_intake.new ≡ at_intake.old }
+        ensures heard { IsHeard self.new.taker at_intake.old }
     {
-        let _ = locks;
-        if let AtIntake::Sends(outbox) = &mut seats.intake {
+        if let AtIntake::Sends(outbox) = at_intake {
             self.taker.hear(intake, &mut outbox.sender);
         }
     }
 
     /// The taker hears what each of these callers sent.
-    fn hear_each(
-        &mut self,
-        locks: &Locks<B>,
-        intake: &Intake<ReadLease<B>, Brand>,
-        ends: &mut [Seats<B>],
-    )
+    fn hear_each(&mut self, intake: &Intake<ReadLease<B>, Brand>, ends: &mut [Seats<B>])
         requires own { self.old.taker.intake ≡ intake.now }
-        requires intake { locks.now.intake ≡ Some intake.now }
-        requires theirs { AllByRecursion (MaySend B.table locks.now) ends.old }
+        requires theirs { AllByRecursion (λ seats. SendsTo intake.now seats.intake) ends.old }
         ensures hears { Hears self.old self.new }
         ensures same { ends.new ≡ ends.old }
         ensures heard { AllByRecursion (λ seats. IsHeard self.new.taker seats.intake) ends.old }
     {
         for place in 0..ends.len() {
-            self.hear(locks, intake, &mut ends[place]);
+            self.hear(intake, &mut ends[place].intake);
         }
     }
 
@@ -298,16 +297,11 @@ impl<B: TableName> Inbox<B> {
         intake: &Intake<ReadLease<B>, Brand>,
         seats: &mut Seats<B>,
     ) -> Result<(), NoMemory>
-        requires own { IsInbox locks.now.arrivals self.old }
-        requires same { self.old.taker.intake ≡ intake.now }
-        requires intake { locks.now.intake ≡ Some intake.now }
+        requires may { MayReunite locks.now intake.now self.old }
         requires theirs { MaySend B.table locks.now seats.old }
-        requires none { left_of self.old ≡ [] }
-        requires all { HasAll self.old.taker }
         requires heard { IsHeard self.old.taker seats.old.intake }
-        ensures own { IsInbox locks.now.arrivals self.new }
+        ensures may { MayReunite locks.now intake.now self.new }
         ensures taker { self.new.taker ≡ self.old.taker }
-        ensures none { left_of self.new ≡ [] }
         ensures whole { OnOk result (AreWhole B.table locks.now seats.new) }
         ensures reunites { OnOk result (Reunites locks.now seats.old seats.new) }
     {
@@ -333,14 +327,10 @@ impl<B: TableName> Inbox<B> {
         intake: &Intake<ReadLease<B>, Brand>,
         ends: &mut [Seats<B>],
     ) -> Result<(), NoMemory>
-        requires own { IsInbox locks.now.arrivals self.old }
-        requires same { self.old.taker.intake ≡ intake.now }
-        requires intake { locks.now.intake ≡ Some intake.now }
+        requires may { MayReunite locks.now intake.now self.old }
         requires theirs { AllByRecursion (MaySend B.table locks.now) ends.old }
-        requires none { left_of self.old ≡ [] }
-        requires all { HasAll self.old.taker }
         requires heard { AllByRecursion (λ seats. IsHeard self.old.taker seats.intake) ends.old }
-        ensures own { IsInbox locks.now.arrivals self.new }
+        ensures may { MayReunite locks.now intake.now self.new }
         ensures taker { self.new.taker ≡ self.old.taker }
         ensures whole { OnOk result (AllByRecursion (AreWhole B.table locks.now) ends.new) }
         ensures reunites { OnOk result (AllZip (Reunites locks.now) ends.old ends.new) }
@@ -372,7 +362,7 @@ impl<B: TableName> Inbox<B> {
         ensures whole { OnOk result (AllByRecursion (AreWhole B.table locks.now) ends.new) }
         ensures reunites { OnOk result (AllZip (Reunites locks.now) ends.old ends.new) }
     {
-        self.hear_each(locks, intake, ends);
+        self.hear_each(intake, ends);
         self.drain(rt, intake, &locks.arrivals, last)?;
         self.reunite_each(rt, locks, intake, ends)
     }

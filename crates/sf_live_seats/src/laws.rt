@@ -4,16 +4,14 @@ ghost use Rattle.sf_live_seats.specs.declared.first.FirstSeats.{FirstSeats};
 ghost use Rattle.sf_live_seats.specs.declared.locks.Locks.{Locks};
 ghost use Rattle.sf_live_seats.specs.declared.seats.Seats.{Seats};
 ghost use Rattle.sf_live_seats.specs.Observers.{SeatGoesOn};
-ghost use Rattle.sf_live_seats.specs.First.{IsFirst};
+ghost use Rattle.sf_live_seats.specs.First.{StaysFirst};
 ghost use Rattle.sf_live_seats.specs.Moves.{ChangesArrivals, ChangesPasses, Stays};
-ghost use Rattle.sf_live_seats.specs.Seats.{AreSeats};
 
 use sf_turns::TableName;
 
 /// The first caller's seats are its first ones still, after any calls through them.
 pub fn first_seats_stay_first<B: TableName>()
-    ensures stays { (locks : Locks B) (old new : FirstSeats B) → IsFirst B.table locks old → AreSeats B.table locks new.seats
-        → Stays old.seats new.seats → new.took ≡ old.took → IsFirst B.table locks new }
+    ensures stays { (locks : Locks B) (old new : FirstSeats B) → StaysFirst B.table locks old new }
     ensures called { (old new : Seats B) → ChangesPasses old new → Stays old new }
     ensures sent { (old new : Seats B) → ChangesArrivals old new → Stays old new }
     ensures looked { (old new : Seats B) → new ≡ record old { turns = new.turns } → SeatGoesOn old.turns new.turns → Stays old new }

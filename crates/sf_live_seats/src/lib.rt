@@ -6,6 +6,7 @@
 #![tactic(auto)]
 
 mod arrivals;
+mod arrivals_seat;
 mod at_intake;
 mod calls;
 mod clock;
@@ -21,6 +22,7 @@ mod shared;
 mod shown;
 
 pub use arrivals::StampedArrivals;
+pub use arrivals_seat::ArrivalsSeat;
 pub use at_intake::AtIntake;
 pub use clock::Clock;
 pub use first::FirstSeats;

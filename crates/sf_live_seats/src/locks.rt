@@ -1,16 +1,17 @@
 //! What the threads of a run share by reference: each queue under a lock, the arrivals, the
 //! timelines. A run opens them with the first seats, and closes them into a desk of one thread.
 ghost use Rattle.std.specs.Prelude.{◌≡◌, ℕ, [], ◌∷◌, Contains, IfOk};
-ghost use Rattle.std.specs.List.{AllByRecursion, AllZip, list_any, position};
-ghost use Rattle.sf_actor.specs.Desks.{has_queue, known_of};
-ghost use Rattle.sf_actor.specs.Known.{GoesOn};
-ghost use Rattle.sf_actor.specs.Plain.{home_of as plain_home, view_of as plain_view};
+ghost use Rattle.std.specs.List.{AllByRecursion, AllZip, position};
+ghost use Rattle.sf_calls.specs.Passes.{first_pass};
+ghost use Rattle.sf_actor.specs.Desks.{has_queue};
+ghost use Rattle.sf_actor.specs.Plain.{view_of as plain_view};
 ghost use Rattle.sf_live_seats.specs.declared.seats.Seats.{Seats};
-ghost use Rattle.sf_live_seats.specs.Closing.{AreClosed, AreOpened, Closes, HasNoCalls, HasNoEntry, IsClosed, IsLast, IsOpened, IsOrdered, Opens, OpensIntake};
-ghost use Rattle.sf_live_seats.specs.First.{HasAll, IsFirst, gave_of, took_of};
-ghost use Rattle.sf_live_seats.specs.Seats.{AreSeats, home_of, is_lock, view_of};
+ghost use Rattle.sf_live_seats.specs.Closing.{AllGoOn, AreArrivalsClosed, AreClosed, AreOpened, Closes, HasNoCalls, HasNoEntry, IsClosed, IsLast, IsLastAtArrivals, IsOpened, IsOrdered, Opens, OpensIntake};
+ghost use Rattle.sf_live_seats.specs.First.{HasAll, IsFirst, gave_of};
+ghost use Rattle.sf_live_seats.specs.Seats.{AreSeats, home_of, is_lock};
 
 use crate::arrivals::StampedArrivals;
+use crate::arrivals_seat::ArrivalsSeat;
 use crate::at_intake::AtIntake;
 use crate::clock::Clock;
 use crate::first::FirstSeats;
@@ -22,7 +23,7 @@ use sf_actor::{PlainDesk, QueueObject, ReadLease};
 use sf_base::{NoMemory, QueueId};
 use sf_calls::CallLock;
 use sf_calls_stamped::Stamped;
-use sf_intake::Intake;
+use sf_intake::{Arrivals, Intake};
 use sf_times::Timelines;
 use sf_turns::TableName;
 use std::alloc::Global;
@@ -67,10 +68,7 @@ fn open_queue<B: TableName>(
             },
             QueueSeat::of(pass),
         )),
-        Err(refused) => {
-            drop(refused);
-            Err(NoMemory)
-        }
+        Err(_refused) => Err(NoMemory),
     }
 }
 
@@ -90,6 +88,34 @@ fn open_queues<B: TableName>(
         passes.push(pass)?;
     }
     Ok((locks, passes))
+}
+
+/// The arrivals, where nothing arrived yet, under a lock, with the first caller's pass.
+fn open_arrivals<B: TableName>(
+    alloc: Global,
+    arrivals: Arrivals<ReadLease<B>, Brand>,
+) -> Result<(CallLock<StampedArrivals<B>>, ArrivalsSeat<B>), NoMemory>
+    requires { arrivals ≡ [] }
+    ensures { IfOk result (λ opened. opened.1 ≡ first_pass opened.0 0 tt []) }
+{
+    match CallLock::open(alloc, StampedArrivals::new(alloc, arrivals), 0) {
+        Ok((lock, pass)) => Ok((lock, ArrivalsSeat::of(pass))),
+        Err(_refused) => Err(NoMemory),
+    }
+}
+
+/// The arrivals out of their lock.
+fn close_arrivals<B: TableName>(
+    lock: CallLock<StampedArrivals<B>>,
+    seat: ArrivalsSeat<B>,
+) -> Arrivals<ReadLease<B>, Brand>
+    requires { IsLastAtArrivals lock seat }
+    ensures { AreArrivalsClosed seat result }
+{
+    match lock.close(seat.into_pass()) {
+        Ok(stamped) => stamped.into_arrivals(),
+        Err(_refused) => unreachable!(),
+    }
 }
 
 /// The queues out of their locks.
@@ -126,26 +152,25 @@ fn open_intake<B: TableName>(
     Ok((Some(intake), AtIntake::Takes(Inbox::of(alloc, taker))))
 }
 
-/// Whether one of these locks has a queue of this number.
-fn is_there<B: TableName>(locks: &[QueueLock<B>], queue: QueueId) -> bool
-    ensures { result ≡ list_any (is_lock queue.0) locks.now }
+/// The place of the queue of this number.
+pub(crate) fn place_in<B: TableName>(locks: &[QueueLock<B>], queue: QueueId) -> Option<usize>
+    ensures { result ≡ position (is_lock queue.0) locks.now }
 {
-    locks.iter().any(|lock| lock.number.0 == queue.0)
+    for place in 0..locks.len() {
+        let lock = &locks[place];
+        if lock.number.0 == queue.0 {
+            return Some(place);
+        }
+    }
+    None
 }
 
 impl<B: TableName> Locks<B> {
-    /// The place of the queue of this number.
-    pub(crate) fn place_of(&self, queue: QueueId) -> Option<usize>
-        ensures { result ≡ position (is_lock queue.0) self.now.queues.items }
-    {
-        self.queues.iter().position(|lock| lock.number.0 == queue.0)
-    }
-
     /// Whether there is a queue of this number.
     pub fn has_queue(&self, queue: QueueId) -> bool
         ensures { (seats : Seats B) → AreSeats B.table self.now seats → has_queue (home_of self.now seats) queue.0 ≡ result }
     {
-        is_there(&self.queues, queue)
+        place_in(&self.queues, queue).is_some()
     }
 
     /// What threads are to share, of a desk at which nothing was called yet, and the first caller's
@@ -170,11 +195,8 @@ impl<B: TableName> Locks<B> {
             tells: _,
         } = desk;
         let (queues, passes) = open_queues(alloc, queues)?;
-        let Ok((lock, pass)) = CallLock::open(alloc, StampedArrivals::new(alloc, arrivals), 0)
-        else {
-            return Err(NoMemory);
-        };
         let (intake, at_intake) = open_intake(alloc, tells)?;
+        let (lock, pass) = open_arrivals(alloc, arrivals)?;
         let locks = Locks {
             queues,
             arrivals: lock,
@@ -202,8 +224,7 @@ impl<B: TableName> Locks<B> {
         requires all { HasAll first }
         ensures closed { IfOk result (Closes self first) }
         ensures ordered { IfOk result (λ desk. IsOrdered first) }
-        ensures goes_on { IfOk result (λ desk. (seats : Seats B) → Contains (took_of first) seats
-            → GoesOn seats.by (known_of (home_of self seats) (view_of seats)) (known_of (plain_home desk) (plain_view desk))) }
+        ensures goes_on { IfOk result (AllGoOn self first) }
         ensures nobody { IfOk result (λ desk. (by : ℕ) → (Contains (first.seats.by ∷ gave_of first) by → ⊥) → HasNoEntry by (plain_view desk)) }
     {
         let Locks {
@@ -224,18 +245,9 @@ impl<B: TableName> Locks<B> {
             turns,
         } = seats.into_parts();
         let Some(pass) = pass else { unreachable!() };
+        let arrivals = close_arrivals(arrivals, pass);
         let queues = close_queues(alloc, queues, passes)?;
-        let Ok(arrivals) = arrivals.close(pass) else {
-            unreachable!()
-        };
-        Ok(PlainDesk::new(
-            queues,
-            arrivals.into_arrivals(),
-            table,
-            times,
-            turns,
-            intake.is_none(),
-        ))
+        Ok(PlainDesk::new(queues, arrivals, table, times, turns, intake.is_none()))
     }
 }
 

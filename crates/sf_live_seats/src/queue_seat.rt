@@ -1,13 +1,12 @@
 //! A caller's pass at the lock of one queue, in a type of its own, so that its drop is proved here
 //! alone.
 ghost use Rattle.std.specs.Prelude.{ℕ, IfOk};
-ghost use Rattle.sf_calls.specs.Calling.{IfFaultNoMemory, IfFaultNotYet, Made, Waited};
-ghost use Rattle.sf_calls.specs.Passes.{Fits, HasMark};
-ghost use Rattle.sf_calls_stamped.specs.Stamps.{AnswersStamped};
+ghost use Rattle.sf_calls.specs.Calling.{IfFaultNoMemory, IfFaultNotYet};
+ghost use Rattle.sf_calls.specs.Passes.{Fits};
 ghost use Rattle.sf_actor.specs.sf_surface.declared.call.QCall.{QCall};
 ghost use Rattle.sf_actor.specs.sf_surface.declared.mark.QueueMark.{QueueMark};
-ghost use Rattle.sf_actor.specs.sf_surface.Histories.{Answers};
-ghost use Rattle.sf_actor.specs.sf_surface.Marks.{PermitFits, SpareFits};
+ghost use Rattle.sf_actor.specs.sf_surface.Marks.{PermitFits};
+ghost use Rattle.sf_live_seats.specs.Queues.{MakesCall, WaitsToCall};
 
 use crate::locks::QueueLock;
 use sf_actor::{QCall, QReply, QueueObject};
@@ -83,10 +82,8 @@ impl<B: TableName> QueueSeat<B> {
         requires own { self.old.table ≡ lock.now.lock }
         requires fits { Fits (λ (m : QueueMark) (call : ℕ × (ℕ × QCall B)). PermitFits B.table call.1.1) self.old call }
         ensures same { self.new ≡ record self.old { seen = self.new.seen; turns = self.new.turns } }
-        ensures done { IfOk result (λ reply. (m : QueueMark) → HasMark self.old m
-            → Made (λ (m : QueueMark). AnswersStamped (Answers m)) m self.old call reply self.new × SpareFits B.table reply.1) }
-        ensures not_yet { IfFaultNotYet result (λ back. (back ≡ call)
-            × ((m : QueueMark) → HasMark self.old m → Waited (λ (m : QueueMark). AnswersStamped (Answers m)) m self.old call self.new)) }
+        ensures done { IfOk result (MakesCall B.table self.old self.new call) }
+        ensures not_yet { IfFaultNotYet result (WaitsToCall self.old self.new call) }
         ensures no_memory { IfFaultNoMemory result (λ back. (back ≡ call) × (self.new ≡ self.old)) }
     {
         self.pass.call(&lock.lock, rt, call)

@@ -1,15 +1,15 @@
 //! All that one caller brings to what is shared: a pass for each queue's lock, its seats at
 //! timelines and turns, and how it sends transactions.
-use crate::arrivals::StampedArrivals;
+use crate::arrivals_seat::ArrivalsSeat;
 use crate::at_intake::AtIntake;
 use crate::calls::{call_one, send_one};
 use crate::clock::Clock;
-use crate::locks::Locks;
+use crate::locks::{Locks, place_in};
 use crate::queue_seat::QueueSeat;
 use crate::shown::Shown;
 use sf_actor::{QCall, QReply, ReadLease};
 use sf_base::{NoMemory, QueueId};
-use sf_calls::{CallFault, Pass};
+use sf_calls::CallFault;
 use sf_intake::Transaction;
 use sf_times::TimeSeat;
 use sf_turns::sf_picture::Painted;
@@ -25,7 +25,7 @@ pub struct Seats<B: TableName> {
     pub(crate) queues: Vec<QueueSeat<B>>,
     pub(crate) arrivals: Shown<B>,
     // The pass at the arrivals, but where the first caller has it.
-    pub(crate) pass: Option<Pass<StampedArrivals<B>>>,
+    pub(crate) pass: Option<ArrivalsSeat<B>>,
     pub(crate) intake: AtIntake<B>,
     pub(crate) times: TimeSeat,
     pub(crate) turns: TurnSeat<Painted>,
@@ -38,7 +38,7 @@ pub(crate) struct SeatsParts<B: TableName> {
     pub(crate) queues: Vec<QueueSeat<B>>,
     pub(crate) arrivals: Shown<B>,
     // The pass at the arrivals, but where the first caller has it.
-    pub(crate) pass: Option<Pass<StampedArrivals<B>>>,
+    pub(crate) pass: Option<ArrivalsSeat<B>>,
     pub(crate) intake: AtIntake<B>,
     pub(crate) times: TimeSeat,
     pub(crate) turns: TurnSeat<Painted>,
@@ -50,20 +50,11 @@ impl<B: TableName> Seats<B> {
     ghost use Rattle.sf_actor.specs.sf_surface.Marks.{PermitFits, SpareFits};
     ghost use Rattle.sf_actor.specs.Desks.{IsAsBefore, MadeCall, MadeSend, WaitsForCall, has_queue};
     ghost use Rattle.sf_live_seats.specs.Moves.{ChangesArrivals, ChangesPasses};
-    ghost use Rattle.sf_live_seats.specs.Seats.{AreSeats, MaySend, home_of, view_of};
+    ghost use Rattle.sf_live_seats.specs.Seats.{AreSeats, MaySend, home_of, view_of, whole_of};
 
     /// All that the seats are made of.
     pub(crate) fn into_parts(self) -> SeatsParts<B>
-        ensures { self ≡ record {
-          by = result.by;
-          last = result.last;
-          queues = result.queues;
-          arrivals = result.arrivals;
-          pass = result.pass;
-          intake = result.intake;
-          times = result.times;
-          turns = result.turns;
-        } }
+        ensures { self ≡ whole_of result }
     {
         let Seats {
             by,
@@ -108,7 +99,7 @@ impl<B: TableName> Seats<B> {
             × WaitsForCall (home_of locks.now self.old) (view_of self.old) (view_of self.new) self.old.by queue.0 (step, call)) }
         ensures no_memory { IfFaultNoMemory result (λ back. (back ≡ call) × IsAsBefore (view_of self.old) (view_of self.new)) }
     {
-        let Some(place) = locks.place_of(queue) else {
+        let Some(place) = place_in(&locks.queues, queue) else {
             unreachable!()
         };
         call_one(

@@ -62,23 +62,13 @@ impl<'a, R, B: TableName> SharedDesk<'a, R, B> {
 }
 
 impl<'a, R: Wait, B: TableName> Desk<TokensOf<B>> for SharedDesk<'a, R, B> {
-    ghost use Rattle.std.specs.Prelude.{◌≡◌, ℕ, ◌-◌, ◌≤◌, true, IfOk, IfErr, slice_index};
-    ghost use Rattle.sf_base.specs.Points.{greatest, points_from};
-    ghost use Rattle.sf_calls.specs.Calling.{IfFaultNoMemory, IfFaultNotYet};
-    ghost use Rattle.sf_actor.specs.sf_surface.Drawing.{DrawsLease, PaysOwing};
-    ghost use Rattle.sf_actor.specs.sf_surface.Marks.{PermitFits, SpareFits};
-    ghost use Rattle.sf_times.specs.Seats.{all_loaded, raised};
-    ghost use Rattle.sf_turns.specs.Views.{Leaves};
-    ghost use Rattle.sf_actor.specs.Desks.{ChangesTimes, ChangesTurns, IsAsBefore, KnowsAll, MadeCall, MadeSend, WaitsForCall, has_queue};
     ghost use Rattle.sf_live_seats.specs.Shared.{home_of, view_of};
 
     ghost home = { home_of };
 
     ghost view = { view_of };
 
-    fn exact(&self)
-        ensures { (home_of self.now).is_exact ≡ true → KnowsAll (view_of self.now) }
-    {}
+    fn exact(&self) {}
 
     fn call(
         &mut self,
@@ -86,16 +76,7 @@ impl<'a, R: Wait, B: TableName> Desk<TokensOf<B>> for SharedDesk<'a, R, B> {
         queue: QueueId,
         step: u32,
         call: QCall<B>,
-    ) -> Result<QReply<B>, CallFault<QCall<B>>>
-        requires served { (home_of self.old).serves by.0 ≡ true }
-        requires there { has_queue (home_of self.old) queue.0 ≡ true }
-        requires permit { PermitFits B.table call }
-        ensures made { IfOk result (MadeCall (home_of self.old) (view_of self.old) (view_of self.new) by.0 queue.0 (step, call)) }
-        ensures spare { IfOk result (SpareFits B.table) }
-        ensures not_yet { IfFaultNotYet result (λ back. (back ≡ call) × WaitsForCall (home_of self.old) (view_of self.old) (view_of self.new) by.0 queue.0 (step, call)) }
-        ensures no_memory { IfFaultNoMemory result (λ back. (back ≡ call) × IsAsBefore (view_of self.old) (view_of self.new)) }
-        ensures home { home_of self.new ≡ home_of self.old }
-    {
+    ) -> Result<QReply<B>, CallFault<QCall<B>>> {
         let _ = by;
         self.seats.call(self.locks, self.rt, queue, step, call)
     }
@@ -105,35 +86,16 @@ impl<'a, R: Wait, B: TableName> Desk<TokensOf<B>> for SharedDesk<'a, R, B> {
         by: ActorId,
         step: u32,
         txn: Transaction<ReadLease<B>>,
-    ) -> Result<u32, (NoMemory, Transaction<ReadLease<B>>)>
-        requires served { (home_of self.old).serves by.0 ≡ true }
-        ensures sent { IfOk result (MadeSend (home_of self.old) (view_of self.old) (view_of self.new) by.0 step txn) }
-        ensures back { IfErr result (λ back. (back.1 ≡ txn) × IsAsBefore (view_of self.old) (view_of self.new)) }
-        ensures home { home_of self.new ≡ home_of self.old }
-    {
+    ) -> Result<u32, (NoMemory, Transaction<ReadLease<B>>)> {
         let _ = by;
         self.seats.send(self.locks, self.rt, step, txn)
     }
 
-    fn signal(&mut self, t: TimelineId, v: u64)
-        requires low { 1 ≤ t.0 }
-        requires high { t.0 ≤ 64 }
-        ensures signalled { (view_of self.new).times ≡ raised (view_of self.old).times (t.0, v) }
-        ensures times { ChangesTimes (view_of self.old) (view_of self.new) }
-        ensures home { home_of self.new ≡ home_of self.old }
-    {
+    fn signal(&mut self, t: TimelineId, v: u64) {
         self.seats.times.signal(&self.locks.times, t, v);
     }
 
-    fn see(&mut self) -> Seen
-        ensures shown { (view_of self.new).times ≡ all_loaded (view_of self.old).times (points_from 1 result.values) }
-        ensures known { (t : ℕ) → 1 ≤ t → t ≤ 64 → greatest t (view_of self.old).times.known ≤ slice_index result.values (t - 1) }
-        ensures signalled { (t : ℕ) → 1 ≤ t → t ≤ 64 → greatest t (view_of self.old).times.signals ≤ slice_index result.values (t - 1) }
-        ensures exact { (home_of self.old).is_exact ≡ true → (t : ℕ) → 1 ≤ t → t ≤ 64
-            → slice_index result.values (t - 1) ≡ greatest t (view_of self.old).times.signals }
-        ensures times { ChangesTimes (view_of self.old) (view_of self.new) }
-        ensures home { home_of self.new ≡ home_of self.old }
-    {
+    fn see(&mut self) -> Seen {
         self.seats.times.see_all(&self.locks.times)
     }
 
@@ -143,11 +105,7 @@ impl<'a, R: Wait, B: TableName> Desk<TokensOf<B>> for SharedDesk<'a, R, B> {
         lease: WriteLease<B>,
         picture: &Picture,
         seen: &Seen,
-    ) -> Result<WriteLease<B>, DrawFault<WriteLease<B>>>
-        ensures draws { DrawsLease lease picture.now seen.now (view_of self.old).turns (view_of self.new).turns result }
-        ensures turns { ChangesTurns (view_of self.old) (view_of self.new) }
-        ensures home { home_of self.new ≡ home_of self.old }
-    {
+    ) -> Result<WriteLease<B>, DrawFault<WriteLease<B>>> {
         lease.draw(alloc, &mut self.seats.turns, picture, seen)
     }
 
@@ -157,19 +115,11 @@ impl<'a, R: Wait, B: TableName> Desk<TokensOf<B>> for SharedDesk<'a, R, B> {
         owing: Owing<B>,
         picture: &Picture,
         seen: &Seen,
-    ) -> Result<(), DrawFault<Owing<B>>>
-        ensures pays { PaysOwing owing picture.now seen.now (view_of self.old).turns (view_of self.new).turns result }
-        ensures turns { ChangesTurns (view_of self.old) (view_of self.new) }
-        ensures home { home_of self.new ≡ home_of self.old }
-    {
+    ) -> Result<(), DrawFault<Owing<B>>> {
         owing.draw(alloc, &mut self.seats.turns, picture, seen)
     }
 
-    fn end(&mut self, ending: Ending<B>)
-        ensures leaves { Leaves (view_of self.old).turns ending.turn.buffer ending.turn.number (view_of self.new).turns }
-        ensures turns { ChangesTurns (view_of self.old) (view_of self.new) }
-        ensures home { home_of self.new ≡ home_of self.old }
-    {
+    fn end(&mut self, ending: Ending<B>) {
         ending.end(&mut self.seats.turns);
     }
 }

@@ -1,6 +1,5 @@
 //! What a caller's pass at the arrivals showed, kept for proofs alone: it takes no room.
-use crate::arrivals::StampedArrivals;
-use sf_calls::Pass;
+use crate::arrivals_seat::ArrivalsSeat;
 use sf_turns::TableName;
 use std::marker::Model;
 use std::snapshot::Snapshot;
@@ -8,7 +7,7 @@ use std::snapshot::Snapshot;
 /// What a caller's pass at the arrivals shows, or what it showed when it was given away. It is for
 /// proofs alone, and contracts see it as the pass.
 pub struct Shown<B: TableName> {
-    pass: Snapshot<Pass<StampedArrivals<B>>>,
+    pass: Snapshot<ArrivalsSeat<B>>,
 }
 
 impl<B: TableName> Model for Shown<B> {
@@ -23,7 +22,7 @@ impl<B: TableName> Shown<B> {
     ghost use Rattle.std.specs.Prelude.{◌≡◌};
 
     /// What this pass shows.
-    pub(crate) fn of(pass: &Pass<StampedArrivals<B>>) -> Shown<B>
+    pub(crate) fn of(pass: &ArrivalsSeat<B>) -> Shown<B>
         ensures { result ≡ pass.now }
     {
         Shown {

@@ -10,6 +10,8 @@ use Rattle.sf_actor_steps.specs.sf_calls.contracts.pass.Pass as pass
 use Rattle.sf_live_seats.proofs.clock.Clock.TheSendSync as clock_shown
 use Rattle.sf_live_seats.specs.contracts.arrivals.StampedArrivals as arrived
 use Rattle.sf_live_seats.specs.contracts.arrivals.StampedArrivalsObject.TheImpl as arriving
+use Rattle.sf_live_seats.specs.contracts.arrivals_seat.ArrivalsSeat as arrivals_seat
+use Rattle.sf_live_seats.specs.contracts.arrivals_seat.ArrivalsSeat.TheInside as arrivals_seat_inside
 use Rattle.sf_live_seats.specs.contracts.at_intake.AtIntake as at_intake
 use Rattle.sf_live_seats.specs.contracts.inbox.Courier as courier
 use Rattle.sf_live_seats.specs.contracts.inbox.Inbox as inbox
@@ -77,12 +79,15 @@ module _ (B : RattleType) (T : naming.Ghosts B.Denot) where
   arrivals_pass_send : IsSend ArrivalsPass
   arrivals_pass_send = pass_send (arrived.the_row B T) ArriveCall ArriveReply ArriveCall ArriveReply unit (arriving.ghosts B T arriving.no_dict) (arrived_send B T)
 
+  arrivals_seat_send : IsSend (arrivals_seat.the_row B T)
+  arrivals_seat_send = view_send _ _ _ _ _ (declared_send (arrivals_seat_inside.the_type B T) (arrivals_pass_send, tt))
+
   -- what a caller has at the intake
   outbox_send : IsSend (outbox.the_row B T)
   outbox_send = declared_send (outbox.the_type B T) (sends_send B T, (search crosses, tt))
 
   courier_send : IsSend (courier.the_row B T)
-  courier_send = declared_send (courier.the_type B T) (search crosses, (arrivals_pass_send, tt))
+  courier_send = declared_send (courier.the_type B T) (search crosses, (arrivals_seat_send, tt))
 
   inbox_send : IsSend (inbox.the_row B T)
   inbox_send = declared_send (inbox.the_type B T) (
@@ -112,7 +117,7 @@ module _ (B : RattleType) (T : naming.Ghosts B.Denot) where
         (
           shown_send,
           (
-            search (sendable, crosses, variants_send, arrivals_pass_send) depth 20,
+            search (sendable, crosses, variants_send, arrivals_seat_send) depth 20,
             (at_intake_send, (time_seat_shown.the_send, (seat_send, tt))),
           ),
         ),

@@ -10,7 +10,7 @@ use Rattle.sf_calls.specs.Histories.{GoesOnWithout}
 use Rattle.sf_calls.specs.Passes.{met}
 use Rattle.sf_live_seats.specs.Arriving.{ArrivalsPass}
 use Rattle.sf_live_seats.specs.Passes.{IsAt, IsFirstPass, KeepsOwn, all_met}
-use Rattle.sf_live_seats.specs.Seats.{AreWhole, IsPassOf, QueuePass}
+use Rattle.sf_live_seats.specs.Seats.{AreWhole, IsPassOf, QueuePass, whole_of}
 use Rattle.sf_live_seats.specs.declared.seats.Seats.{Seats}
 use Rattle.sf_live_seats.proofs.GivenSeats.{at_locks}
 use Rattle.sf_live_seats.proofs.SeatsTakenIn.{IsMet, first_after, first_passes, meets_after, met_long, one_longer, took_one}
@@ -28,8 +28,7 @@ meet_passes-requires-clause-own g c =
 
 pub meet_passes-requires-clause-theirs : goal.meet_passes-requires-clause-theirs
 meet_passes-requires-clause-theirs g c =
-    let parts = c.into_parts-queues.result in
-    let seats : Seats g.row.B.Denot = record { by = parts.by; last = parts.last; queues = parts.queues; arrivals = parts.arrivals; pass = parts.pass; intake = parts.intake; times = parts.times; turns = parts.turns } in
+    let seats : Seats g.row.B.Denot = whole_of c.into_parts-queues.result in
     let theirs = subst (AreWhole g.B.TableName.table c.args.locks.now) c.into_parts-queues.ensures c.requires.theirs in
     subst (λ (ls : List (QueueLock g.row.B.Denot)). AllZip IsAt ls seats.queues.items) (sym c.deref.ensures.value)
     (at_locks seats.by c.args.locks.now.queues.items seats.queues.items theirs.queues)
@@ -37,8 +36,7 @@ meet_passes-requires-clause-theirs g c =
 pub meet_passes-requires-clause-long : goal.meet_passes-requires-clause-long
 meet_passes-requires-clause-long g c =
     let first = c.args.self.now in
-    let parts = c.into_parts-queues.result in
-    let seats : Seats g.row.B.Denot = record { by = parts.by; last = parts.last; queues = parts.queues; arrivals = parts.arrivals; pass = parts.pass; intake = parts.intake; times = parts.times; turns = parts.turns } in
+    let seats : Seats g.row.B.Denot = whole_of c.into_parts-queues.result in
     let theirs = subst (AreWhole g.B.TableName.table c.args.locks.now) c.into_parts-queues.ensures c.requires.theirs in
     let a = ap (λ (ls : List (QueueLock g.row.B.Denot)). length ls) c.deref.ensures.value in
     let b = as_long (IsPassOf first.seats.by) c.args.locks.now.queues.items first.seats.queues.items c.requires.first.own.queues in
@@ -55,7 +53,6 @@ meet_passes-requires-clause-first g c =
 
 pub unreachable-requires : goal.unreachable-requires
 unreachable-requires g c =
-    let parts = c.into_parts-queues.result in
     let theirs = subst (AreWhole g.B.TableName.table c.args.locks.now) c.into_parts-queues.ensures c.requires.theirs in
     (let f = sym c.in_default.is ∙ theirs.pass in cc)
 
@@ -66,8 +63,7 @@ unreachable-requires-in_default-pass g c =
 pub meet-requires : goal.meet-requires
 meet-requires g c =
     let old = c.args.self.now in
-    let parts = c.into_parts-queues.result in
-    let seats : Seats g.row.B.Denot = record { by = parts.by; last = parts.last; queues = parts.queues; arrivals = parts.arrivals; pass = parts.pass; intake = parts.intake; times = parts.times; turns = parts.turns } in
+    let seats : Seats g.row.B.Denot = whole_of c.into_parts-queues.result in
     let theirs = subst (AreWhole g.B.TableName.table c.args.locks.now) c.into_parts-queues.ensures c.requires.theirs in
     let is : c.in-Some-pass.first_pass ≡ old.seats.arrivals = some_same (sym c.in-Some-pass.is ∙ there_first g.B.TableName.table c.args.locks.now old.seats c.requires.first.own c.requires.first.number) in
     let theirs_is : c.in-Some.pass ≡ seats.arrivals = some_same (sym c.in-Some.is ∙ theirs.pass) in
@@ -80,8 +76,7 @@ meet-requires g c =
 pub returns : goal.returns
 returns g c =
     let old = c.args.self.now in
-    let parts = c.into_parts-queues.result in
-    let seats : Seats g.row.B.Denot = record { by = parts.by; last = parts.last; queues = parts.queues; arrivals = parts.arrivals; pass = parts.pass; intake = parts.intake; times = parts.times; turns = parts.turns } in
+    let seats : Seats g.row.B.Denot = whole_of c.into_parts-queues.result in
     let theirs = subst (AreWhole g.B.TableName.table c.args.locks.now) c.into_parts-queues.ensures c.requires.theirs in
     let is : c.in-Some-pass.first_pass ≡ old.seats.arrivals = some_same (sym c.in-Some-pass.is ∙ there_first g.B.TableName.table c.args.locks.now old.seats c.requires.first.own c.requires.first.number) in
     let theirs_is : c.in-Some.pass ≡ seats.arrivals = some_same (sym c.in-Some.is ∙ theirs.pass) in

@@ -1,9 +1,6 @@
 use Rattle.std.proofs.Common.{◌<◌, ℕ, refl, subst}
 use Rattle.sf_live_seats.proofs.inbox.Inbox.admit.Goals as goal
 
-pub same-pass : goal.same-pass
-same-pass g c = refl
-
 pub sender-requires-clause-few : goal.sender-requires-clause-few
 sender-requires-clause-few g c = subst (λ (n : ℕ). n < 64) c.requires.count c.if-self-ge-MOST_SENDERS.false
 

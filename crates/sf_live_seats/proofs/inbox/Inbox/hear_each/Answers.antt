@@ -1,7 +1,8 @@
 use Rattle.std.proofs.Common.{List, get_or, set, arith, ap, ◌∙◌, sym, refl, subst}
 use Rattle.std.proofs.lemmas.List.{set-get_or}
 use Rattle.sf_live_seats.specs.declared.seats.Seats.{Seats}
-use Rattle.sf_live_seats.specs.Seats.{IsHeard, MaySend}
+use Rattle.sf_live_seats.specs.declared.at_intake.AtIntake.{AtIntake}
+use Rattle.sf_live_seats.specs.Seats.{IsHeard, SendsTo}
 use Rattle.sf_live_seats.proofs.IntakeArrivals.{hears_none, hears_on}
 use Rattle.sf_live_seats.proofs.ReunitedPass.{all_places, heard_next}
 use Rattle.sf_live_seats.proofs.GivenPasses.{by_place}
@@ -16,16 +17,17 @@ hear-requires-clause-own g c = ap (λ t. t.intake) c.loop-place.invariant.hears.
 pub hear-requires-clause-theirs : goal.hear-requires-clause-theirs
 hear-requires-clause-theirs g c =
     let at = c.loop-place in
-    subst (λ (xs : List (Seats g.row.B.Denot)). MaySend g.B.TableName.table c.args.locks.now (get_or xs at.place c.index-ends-place.result)) (sym at.invariant.same)
-    (by_place (MaySend g.B.TableName.table c.args.locks.now) c.args.ends.now at.place c.index-ends-place.result c.requires.theirs c.loop-place-test.true)
+    subst (λ (xs : List (Seats g.row.B.Denot)). SendsTo c.args.intake.now (get_or xs at.place c.index-ends-place.result).intake) (sym at.invariant.same)
+    (by_place (λ (s : Seats g.row.B.Denot). SendsTo c.args.intake.now s.intake) c.args.ends.now at.place c.index-ends-place.result c.requires.theirs c.loop-place-test.true)
 
 pub loop-place-preserved : goal.loop-place-preserved
 loop-place-preserved g c =
     let at = c.loop-place in
+    let one = get_or at.ends at.place c.index-ends-place.result in
     record {
       hears = hears_on c.args.self.now at.self c.hear.new.self at.invariant.hears c.hear.ensures.hears;
       same =
-          ap (λ (s : Seats g.row.B.Denot). set at.ends at.place s) c.hear.ensures.same ∙ set-get_or at.ends at.place c.index-ends-place.result ∙ at.invariant.same;
+          ap (λ (at_intake : AtIntake g.row.B.Denot). set at.ends at.place (record one { intake = at_intake })) c.hear.ensures.same ∙ set-get_or at.ends at.place c.index-ends-place.result ∙ at.invariant.same;
       heard =
           heard_next at.self.taker c.hear.new.self.taker c.args.ends.now at.ends at.place c.index-ends-place.result at.invariant.same c.loop-place-test.true c.hear.ensures.hears.heard
           c.hear.ensures.heard at.invariant.heard;

@@ -1,6 +1,5 @@
-use Rattle.std.proofs.Common.{get_or, arith, ap, ◌∙◌, sym, refl, subst}
+use Rattle.std.proofs.Common.{get_or, arith, ◌∙◌, sym, refl, subst}
 use Rattle.sf_live_seats.specs.declared.seats.Seats.{Seats}
-use Rattle.sf_live_seats.specs.Inboxes.{HasAll}
 use Rattle.sf_live_seats.specs.Reuniting.{Reunites}
 use Rattle.sf_live_seats.specs.Seats.{AreWhole, IsHeard, MaySend}
 use Rattle.sf_live_seats.proofs.ReunitedPass.{all_places, none_reunited, one_reunited, zip_places}
@@ -8,7 +7,7 @@ use Rattle.sf_live_seats.proofs.GivenPasses.{by_place}
 use Rattle.sf_live_seats.proofs.inbox.Inbox.reunite_each.Goals as goal
 
 pub loop-place-init : goal.loop-place-init
-loop-place-init g c = record { own = c.requires.own; taker = refl; none = c.requires.none; so = none_reunited g.B.TableName.table c.args.locks.now c.args.ends.now }
+loop-place-init g c = record { may = c.requires.may; taker = refl; so = none_reunited g.B.TableName.table c.args.locks.now c.args.ends.now }
 
 pub reunite-requires : goal.reunite-requires
 reunite-requires g c =
@@ -16,13 +15,9 @@ reunite-requires g c =
     let r = c.index-ends-place.result in
     let same = at.invariant.so.rest at.place r (omega arith) in
     record {
-      own = at.invariant.own;
-      same = ap (λ t. t.intake) at.invariant.taker ∙ c.requires.same;
-      intake = c.requires.intake;
+      may = at.invariant.may;
       theirs = subst (λ (s : Seats g.row.B.Denot). MaySend g.B.TableName.table c.args.locks.now s) (sym same)
           (by_place (MaySend g.B.TableName.table c.args.locks.now) c.args.ends.now at.place r c.requires.theirs c.loop-place-test.true);
-      none = at.invariant.none;
-      all = subst HasAll (sym at.invariant.taker) c.requires.all;
       heard = subst (λ t. IsHeard t (get_or at.ends at.place r).intake) (sym at.invariant.taker)
           (subst (λ (s : Seats g.row.B.Denot). IsHeard c.args.self.now.taker s.intake) (sym same)
           (by_place (λ (s : Seats g.row.B.Denot). IsHeard c.args.self.now.taker s.intake) c.args.ends.now at.place r c.requires.heard c.loop-place-test.true));
@@ -32,9 +27,8 @@ pub loop-place-preserved : goal.loop-place-preserved
 loop-place-preserved g c =
     let at = c.loop-place in
     record {
-      own = c.reunite.ensures.own;
+      may = c.reunite.ensures.may;
       taker = c.reunite.ensures.taker ∙ at.invariant.taker;
-      none = c.reunite.ensures.none;
       so =
           one_reunited g.B.TableName.table c.args.locks.now c.args.ends.now at.ends at.place c.index-ends-place.result c.reunite.new.seats c.loop-place-test.true at.invariant.so
           c.in_ok-reunite.ensures.whole c.in_ok-reunite.ensures.reunites;
