@@ -8,7 +8,6 @@ use Rattle.sf_live_threads.specs.sf_commit.Lending.{ends_of}
 use Rattle.sf_live_threads.specs.sf_commit.OnLayers.{at_hand}
 use Rattle.sf_live_threads.specs.sf_commit.Releases.{ReleaseOf, CommittedOf}
 use Rattle.sf_play_write.specs.sf_play_report.declared.report.VsyncReport.{VsyncReport}
-use Rattle.sf_live_threads.specs.sf_surface.Reading.{EyeMark}
 use Rattle.sf_live_threads.specs.sf_surface.Tokens.{Issued, ReadLeaseOf}
 use Rattle.sf_live_threads.specs.sf_surface.declared.call.QCall.{QCall}
 use Rattle.sf_live_threads.specs.sf_surface.declared.call.QReply.{QReply}
@@ -28,7 +27,7 @@ use Rattle.sf_live_threads.proofs.sf_live_seats_lemmas.FirstSeatsKept.{stays_loo
 use Rattle.sf_live_compositor.specs.Sitting.{HasAll, HasLent, MakesLent, MakesVsync}
 use Rattle.sf_live_compositor.specs.Vsyncs.{Sitting}
 use Rattle.sf_live_compositor.specs.declared.vsync.MadeVsync.{MadeVsync}
-use Rattle.sf_live_compositor.proofs.SeatGrowth.{stays_on}
+use Rattle.sf_live_compositor.proofs.SeatGrowth.{own_on, stays_on}
 use Rattle.sf_live_compositor.proofs.Lent.{decides_behind, hand_twice}
 
 module _ {B : Type 0} (home : DeskHome) (turns : SeatView) where
@@ -91,18 +90,7 @@ module _ {B : Type 0} (lease : Ghosts ReadLeaseOf SeatView ReadLeaseOf Issued) (
       → MakesLent lease table locks period (record old { handler = was }) new report
   makes_lent was old new report lent made = λ turns goes back. record {
     vsync = record {
-      own = record {
-        queues = made.own.queues;
-        own_arrivals = made.own.own_arrivals;
-        marked = made.own.marked;
-        number = made.own.number;
-        own_times = made.own.own_times;
-        own_turns = ap (λ (m : EyeMark). m.table) goes.mark ∙ made.own.own_turns;
-        in_order = made.own.in_order;
-        takes = made.own.takes;
-        pass = made.own.pass;
-        way = made.own.way;
-      };
+      own = own_on table locks new.seats turns goes made.own;
       caller = made.caller;
       unlent = lent.all.unlent;
       looked = made.looked;

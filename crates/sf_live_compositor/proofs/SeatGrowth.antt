@@ -1,27 +1,24 @@
 -- Seats that go on, call by call.
-use Rattle.std.proofs.Common.{◌≡◌, ℕ, ◌+◌, ◌≤◌, ◌==◌, List, [], ◌∷◌, ◌++◌, inl, inr, arith, ap, ◌∙◌, refl, sym, subst}
+use Rattle.std.proofs.Common.{◌≡◌, ℕ, ◌≤◌, ◌==◌, List, [], ◌∷◌, ◌++◌, inl, inr, arith, ap, ◌∙◌, refl, sym, subst}
 use Rattle.std.proofs.lemmas.List.{append_assoc}
-use Rattle.std.specs.Prelude.{map}
 use Rattle.std.specs.List.{AllZip}
 use Rattle.atomic_table.specs.Seated.{TableId}
-use Rattle.sf_base.specs.declared.fences.Seen.{Seen}
-use Rattle.sf_live_threads.specs.sf_commit.Releases.{ReleaseOf, CommittedOf}
-use Rattle.sf_play_write.specs.sf_play_report.declared.report.VsyncReport.{VsyncReport}
+use Rattle.sf_live_threads.specs.sf_commit.Releases.{ReleaseOf}
+use Rattle.sf_live_threads.specs.sf_surface.Reading.{EyeMark}
 use Rattle.sf_live_threads.specs.sf_surface.Tokens.{ReadLeaseOf}
-use Rattle.sf_live_threads.specs.sf_actor.Desks.{DeskHome, DeskView}
+use Rattle.sf_live_threads.specs.sf_turns.Views.{SeatView}
 use Rattle.sf_live_threads.specs.sf_actor.Known.{AreAmong}
-use Rattle.sf_play_write.specs.law_rights.Standing.{GiveAll, GivesOne}
+use Rattle.sf_play_write.specs.law_rights.Standing.{GiveAll}
+use Rattle.sf_play_write.specs.sf_play.VsyncOver.{InTurn}
 use Rattle.sf_live_threads.specs.sf_live_seats.declared.locks.Locks.{Locks}
 use Rattle.sf_live_threads.specs.sf_live_seats.declared.seats.Seats.{Seats}
 use Rattle.sf_live_threads.specs.sf_live_seats.Arriving.{ArrivalsPass}
-use Rattle.sf_live_threads.specs.sf_live_seats.Moves.{ChangesPasses, MadeLater, MovesPass, Stays}
+use Rattle.sf_live_threads.specs.sf_live_seats.Moves.{MadeLater, MovesPass, Stays}
+use Rattle.sf_live_threads.specs.sf_live_seats.Observers.{SeatGoesOn}
 use Rattle.sf_live_threads.specs.sf_live_seats.Seats.{AreSeats, QueuePass, home_of, view_of}
+use Rattle.sf_live_compositor.specs.SeatDesk.{AreFirst, GivesBack, Observes}
 use Rattle.sf_live_threads.specs.sf_calls.Histories.{Begins}
 use Rattle.sf_live_threads.proofs.sf_live_seats_lemmas.FirstSeatsKept.{stays_called}
-
-pub map_same : {X : Type 0} (xs : List X) → map (λ (x : X). x) xs ≡ xs
-map_same [] = refl
-map_same (x ∷ xs) = ap (λ (ys : List _). x ∷ ys) (map_same xs)
 
 begins_on : {X : Type 0} (xs ys zs : List X) → Begins xs ys → Begins ys zs → Begins xs zs
 begins_on xs ys zs one two = (two.0 ++ one.0, two.1 ∙ ap (λ (l : List _). two.0 ++ l) one.1 ∙ sym (append_assoc two.0 one.0 xs))
@@ -83,44 +80,50 @@ module _ {B : Type 0} where
     | inr since ↦ inr (omega (arith, rises, since))
   ]
 
-  -- one frame more goes back
-  pub give_more : (home : DeskHome) (number : ℕ) (releases : List (ReleaseOf ReadLeaseOf)) (release : ReleaseOf ReadLeaseOf) (old mid new : DeskView B) → GiveAll home number releases old mid
-      → GivesOne home number release mid new → GiveAll home number (releases ++ release ∷ []) old new
-  give_more home number [] release old mid new gives one = (new, subst (λ (v : DeskView B). GivesOne home number release v new) gives one, refl)
-  give_more home number (first ∷ later) release old mid new gives one = (gives.0, gives.1, give_more home number later release gives.0 mid new gives.2 one)
-
   -- these frames went back, for the vsync of this number
-  pub record Gave (table : TableId) (locks : Locks B) (number : ℕ) (releases : List (ReleaseOf ReadLeaseOf)) (old new : Seats B) : Type 0 where
-    pub own : AreSeats table locks new
+  pub record Gave (locks : Locks B) (number : ℕ) (releases : List (ReleaseOf ReadLeaseOf)) (old new : Seats B) : Type 0 where
     pub stays : Stays old new
     pub gives : GiveAll (home_of locks old) number releases (view_of old) (view_of new)
     pub later : MadeLater old new
     pub last : old.last.stamp ≤ new.last.stamp
     pub arrivals : new.arrivals ≡ old.arrivals
     pub early : old.last.step ≤ number → new.last.step ≤ number
+    pub turns : new.turns ≡ old.turns
 
-  pub gave_none : (table : TableId) (locks : Locks B) (number : ℕ) (seats : Seats B) → AreSeats table locks seats → Gave table locks number [] seats seats
-  gave_none table locks number seats own = record { own = own; stays = stays_none seats; gives = refl; later = λ m there. inl there; last = omega arith; arrivals = refl; early = λ e. e }
+  pub gave_all : (table : TableId) (locks : Locks B) (number : ℕ) (releases : List (ReleaseOf ReadLeaseOf)) (old new : Seats B) → InTurn (GivesBack table locks number) releases old new → Gave locks number releases old new
+  gave_all table locks number [] old new same =
+      subst (Gave locks number [] old) (sym same) (record { stays = stays_none old; gives = refl; later = λ m there. inl there; last = omega arith; arrivals = refl; early = λ e. e; turns = refl })
+  gave_all table locks number (release ∷ later) old new gives =
+      let mid = gives.0 in
+      let one = gives.1 in
+      let rest = gave_all table locks number later mid new gives.2 in
+      let on = stays_called old mid one.changes in
+      record {
+        stays = stays_on old mid new on rest.stays;
+        gives = (view_of mid, one.gives, subst (λ (b : ℕ). GiveAll (record (home_of locks old) { serves = λ by. by == b }) number later (view_of mid) (view_of new)) on.number rest.gives);
+        later = later_on old mid new one.changes.later one.changes.last rest.later;
+        last = (let a = one.changes.last in let b = rest.last in omega (arith, a, b));
+        arrivals = rest.arrivals ∙ ap (λ (s : Seats B). s.arrivals) one.changes.same;
+        early = λ low. rest.early (let step = one.step in omega (arith, step));
+        turns = rest.turns ∙ one.turns;
+      }
 
-  pub gave_more : (table : TableId) (locks : Locks B) (number : ℕ) (releases : List (ReleaseOf ReadLeaseOf)) (release : ReleaseOf ReadLeaseOf) (old mid new : Seats B) → Gave table locks number releases old mid
-      → AreSeats table locks new → ChangesPasses mid new → new.last.step ≡ number → GivesOne (home_of locks mid) number release (view_of mid) (view_of new) → Gave table locks number (releases ++ release ∷ []) old new
-  gave_more table locks number releases release old mid new gave own changes step one = record {
-    own = own;
-    stays = stays_on old mid new gave.stays (stays_called mid new changes);
-    gives =
-        give_more (home_of locks old) number releases release (view_of old) (view_of mid) (view_of new) gave.gives
-        (subst (λ (b : ℕ). GivesOne (record (home_of locks old) { serves = λ by. by == b }) number release (view_of mid) (view_of new)) gave.stays.number one);
-    later = later_on old mid new gave.later gave.last changes.later;
-    last = (let a = gave.last in let b = changes.last in omega (arith, a, b));
-    arrivals = ap (λ (s : Seats B). s.arrivals) changes.same ∙ gave.arrivals;
-    early = λ low. omega (arith, step);
+  -- they are the caller's own still once its seat at the turns went on
+  pub own_on : (table : TableId) (locks : Locks B) (seats : Seats B) (turns : SeatView) → SeatGoesOn seats.turns turns → AreSeats table locks seats → AreSeats table locks (record seats { turns = turns })
+  own_on table locks seats turns goes own = record {
+    queues = own.queues;
+    own_arrivals = own.own_arrivals;
+    marked = own.marked;
+    number = own.number;
+    own_times = own.own_times;
+    own_turns = ap (λ (m : EyeMark). m.table) goes.mark ∙ own.own_turns;
+    in_order = own.in_order;
+    takes = own.takes;
+    pass = own.pass;
+    way = own.way;
   }
 
--- the report of a vsync that told this
-abbrev pub reported : ℕ → Seen → ℕ → CommittedOf ReadLeaseOf → VsyncReport
-reported before seen expected told = record {
-  number = before + 1;
-  expected = expected;
-  seen = seen;
-  commits = told.commits;
-}
+  -- they are the compositor's still once it has decided
+  pub first_on : (table : TableId) (locks : Locks B) (old new : Seats B) → Observes old new → AreFirst table locks old → AreFirst table locks new
+  first_on table locks old new decides first =
+      subst (AreFirst table locks) (sym decides.same) (record { own = own_on table locks old new.turns decides.goes first.own; first = first.first })

@@ -1,4 +1,5 @@
 pub mod Keeping
+pub mod SeatDesk
 pub mod Sitting
 pub mod Vsyncs
 pub use Rattle.sf_play_write.specs.law_play_order

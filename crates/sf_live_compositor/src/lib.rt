@@ -5,7 +5,7 @@
 mod behind;
 mod compositor;
 mod decider;
-mod release;
+mod seat_desk;
 mod showing;
 mod vsync;
 

@@ -1,5 +1,4 @@
-//! A vsync of a live run: it looks at the timelines, takes what arrived through the compositor's
-//! seats, decides, and gives back the frames that go.
+//! A vsync of a live run, over the compositor's seats among threads.
 ghost use Rattle.std.specs.Prelude.{◌≡◌, ◌+◌, ◌≤◌, OnOk};
 ghost use Rattle.sf_live_threads.specs.sf_actor.Plain.{taken_in};
 ghost use Rattle.sf_live_threads.specs.sf_live_seats.Seats.{AreSeats};
@@ -7,10 +6,10 @@ ghost use Rattle.sf_live_threads.specs.sf_calls_stamped.Stamps.{unstamped};
 ghost use Rattle.sf_live_compositor.specs.Vsyncs.{sitting_at};
 ghost use Rattle.sf_live_compositor.specs.Sitting.{MadeLent};
 
-use crate::release::release_all;
-use sf_base::{Items, NoMemory};
-use sf_live_threads::{Committed, Handler, Lease, Locks, ReadLease, Seats, TableName};
-use sf_play_write::{VsyncReport, is_time};
+use crate::seat_desk::Sharing;
+use sf_base::NoMemory;
+use sf_live_threads::{Handler, Lease, Locks, ReadLease, Seats, TableName};
+use sf_play_write::{VsyncOutcome, VsyncReport, is_time, vsync_over};
 use std::sync::Wait;
 
 /// How many transactions a take gives at most where they arrive through a queue.
@@ -29,9 +28,8 @@ pub(crate) struct MadeVsync {
     pub(crate) releases: bool,
 }
 
-/// Makes the next vsync, where so many were made before: it looks at the timelines, takes what arrived,
-/// decides, and gives back the frames that go. The handler's pixels are lent; reads of frames that go
-/// are kept until these come back.
+/// Makes the next vsync, where so many were made before. The handler's pixels are lent; reads of frames
+/// that go are kept until these come back.
 pub(crate) fn make_vsync<R: Wait, B: TableName>(
     rt: &R,
     locks: &Locks<B>,
@@ -55,28 +53,19 @@ pub(crate) fn make_vsync<R: Wait, B: TableName>(
 {
     let number = before + 1;
     let expected = u64::from(number) * period;
-    let seen = seats.see(locks);
-    let arrived = seats.take(locks, rt)?;
-    let is_full = arrived.len() >= MOST_TAKEN;
-    let Committed {
-        commits,
-        releases,
+    let sharing = Sharing { rt, locks };
+    let VsyncOutcome {
+        report,
         held,
-    } = seats.vsync(handler, arrived, &seen, expected)?;
-    let goes_on = is_full
-        || (!commits.as_slice().is_empty() && !held.as_slice().is_empty())
+        taken,
+        released,
+    } = vsync_over(seats, &sharing, handler, number, expected)?;
+    let goes_on = taken >= MOST_TAKEN
+        || (report.has_commits() && !held.as_slice().is_empty())
         || held.as_slice().iter().any(|entry| is_time(entry));
-    let has_released = !releases.as_slice().is_empty();
-    release_all(rt, locks, seats, number, releases.into_vec())?;
-    let report = VsyncReport {
-        number,
-        expected,
-        seen,
-        commits,
-    };
     Ok(MadeVsync {
         report,
         goes_on,
-        releases: has_released,
+        releases: released > 0,
     })
 }

@@ -36,12 +36,6 @@ use Rattle.law_rights.specs.Standing.{GiveAll, GivesOne}
 use Rattle.sf_play.proofs.HandlerLeases.{IsOnLent, OfFrames}
 
 module _ {B : Type 0} where
-  -- one frame more goes back
-  pub gives_more : (home : DeskHome) (number : ℕ) (releases : List (ReleaseOf ReadLeaseOf)) (release : ReleaseOf ReadLeaseOf) (old mid new : DeskView B) → GiveAll home number releases old mid
-      → GivesOne home number release mid new → GiveAll home number (releases ++ release ∷ []) old new
-  gives_more home number [] release old mid new gives one = (new, subst (λ (v : DeskView B). GivesOne home number release v new) gives one, refl)
-  gives_more home number (first ∷ later) release old mid new gives one = (gives.0, gives.1, gives_more home number later release gives.0 mid new gives.2 one)
-
   module _ (home : DeskHome) (exact : home.is_exact ≡ true) (number : ℕ) where
     -- the calls on a queue, where one frame went back
     given_here : (release : ReleaseOf ReadLeaseOf) (old new : DeskView B) (one : GivesOne home number release old new) (queue : ℕ) → (queue == release.queue.0) ≡ true

@@ -12,6 +12,7 @@ pub mod PlayEnd
 pub mod ActionFuel
 pub mod ActionGrowth
 pub mod ActionKeepsPlayer
+pub mod InTurn
 pub mod LastHolds
 pub mod PlayFuel
 pub mod Late

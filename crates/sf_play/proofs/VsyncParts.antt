@@ -1,18 +1,17 @@
 -- A player's vsync, part by part.
-use Rattle.std.proofs.Common.{◌≡◌, ℕ, ◌<◌, ◌==◌, true, List, [], ◌∷◌, ◌++◌, length, get_or, map, refl, ap, sym, ◌∙◌, subst, inl, inr}
-use Rattle.std.specs.Prelude.{Contains}
+use Rattle.std.proofs.Common.{◌≡◌, ℕ, ◌==◌, true, List, [], ◌∷◌, map, Result, Ok, Err, refl, ap, sym, ◌∙◌, subst, inl, inr}
+use Rattle.std.specs.Prelude.{Contains, IfOk, OnOk}
 use Rattle.std.specs.List.{All, AllZip, list_any}
 use Rattle.std.proofs.lemmas.Bool.{cases_Bool}
 use Rattle.std.proofs.lemmas.List.Elements.{All-cons, All-head, All-nil, All-tail}
 use Rattle.atomic_table.specs.Seated.{TableId}
+use Rattle.sf_base.specs.declared.memory.NoMemory.{NoMemory}
 use Rattle.sf_base.specs.declared.fences.Seen.{Seen}
 use Rattle.sf_base.specs.declared.ids.QueueId.{QueueId}
 use Rattle.sf_play_report.specs.sf_layer.declared.shown.Shown.{Shown}
 use Rattle.sf_play_report.specs.sf_surface.Histories.{Made}
 use Rattle.sf_play_report.specs.sf_surface.Objects.{ObjectOf, mark_of}
 use Rattle.sf_play_report.specs.sf_surface.Tokens.{Issued, ReadLeaseOf}
-use Rattle.sf_play_report.specs.sf_surface.declared.call.QCall.TheVariants as call
-use Rattle.sf_play_report.specs.sf_surface.declared.call.QReply.{QReply}
 use Rattle.sf_play_report.specs.sf_surface.declared.mark.QueueMark.{QueueMark}
 use Rattle.sf_play_report.specs.sf_token.Arrivals.{Calls, waiting}
 use Rattle.sf_play_report.specs.sf_token.Pending.{Arrival, IsRisingFrom}
@@ -23,51 +22,41 @@ use Rattle.sf_play_report.specs.sf_commit.Leases.{IsReleaseOf}
 use Rattle.sf_play_report.specs.sf_commit.OnLayers.{OnLayer}
 use Rattle.sf_play_report.specs.sf_commit.Releases.{ReleaseOf, CommittedOf}
 use Rattle.sf_script_scene.specs.Scene.{SceneValue}
-use Rattle.sf_play_report.specs.sf_actor.Desks.{DeskHome, MadeCall, has_queue}
+use Rattle.sf_play_report.specs.sf_actor.Desks.{DeskHome, has_queue}
 use Rattle.sf_play_report.specs.sf_actor.Plain.{PlainOf, calls_among, home_of, taken_in, view_of}
 use Rattle.law_rights.specs.sf_actor_set.ActorSets.{ActorSetOf}
-use Rattle.law_rights.specs.sf_actor_set.Compositing.{OnlyDesk, Takes}
+use Rattle.law_rights.specs.sf_actor_set.Compositing.{GivesFrameBack, OnlyDesk, Takes}
 use Rattle.sf_play_report.proofs.law_played_lemmas.Members.{has_none}
 use Rattle.law_rights.specs.Standing.{GiveAll}
+use Rattle.sf_play.specs.ActorDesk.{GivesBack}
 use Rattle.sf_play.specs.Players.{PlayOf, SoFar, Stands}
+use Rattle.sf_play.specs.VsyncOver.{InTurn}
 use Rattle.sf_play.proofs.VsyncKeepsPlayer.{arrived_lent, arrived_rises, only_twice}
 use Rattle.sf_play.proofs.HandlerLeases.{IsOnLent, OfFrames, gone_lent}
-use Rattle.sf_play.proofs.CompositorReleases.{gives_more}
-
-pub map_same : {X : Type 0} (xs : List X) → map (λ x. x) xs ≡ xs
-map_same [] = refl
-map_same (x ∷ xs) = ap (λ ys. x ∷ ys) (map_same xs)
 
 module _ {B : Type 0} where
-  -- frames that went back so far
-  pub record IsGiving (table : TableId) (number : ℕ) (releases : List (ReleaseOf ReadLeaseOf)) (old now : ActorSetOf B) : Type 0 where
-    pub gives : GiveAll (home_of old.desk) number releases (view_of old.desk) (view_of now.desk)
-    pub only : OnlyDesk table (taken_in old.desk.arrivals) old now
+  -- a call that gave a frame back
+  pub gives_back : (table : TableId) (number : ℕ) (release : ReleaseOf ReadLeaseOf) (old new : ActorSetOf B) (result : Result (Unit {0}) NoMemory) → IfOk result (λ done. GivesFrameBack old.desk new.desk number release)
+      → OnlyDesk table (taken_in old.desk.arrivals) old new → OnOk result (GivesBack table number release old new)
+  gives_back table number release old new (Ok done) made only = record { gives = record { reply = made.0; made = made.1 }; only = only }
+  gives_back table number release old new (Err e) made only = tt
 
-  pub giving_none : (table : TableId) (number : ℕ) (actor_set : ActorSetOf B) → IsGiving table number [] actor_set actor_set
-  giving_none table number actor_set = record { gives = refl; only = record { same = refl; home = refl; keep = λ ofs keep. keep } }
+  -- frames that went back, one after another
+  pub record Gave (table : TableId) (number : ℕ) (releases : List (ReleaseOf ReadLeaseOf)) (old new : ActorSetOf B) : Type 0 where
+    pub gives : GiveAll (home_of old.desk) number releases (view_of old.desk) (view_of new.desk)
+    pub only : OnlyDesk table (taken_in old.desk.arrivals) old new
 
-  -- the desk has the queue of the next one
-  pub next_there : (table : TableId) (number : ℕ) (all : List (ReleaseOf ReadLeaseOf)) (done : List (ReleaseOf ReadLeaseOf)) (old now : ActorSetOf B) (release : ReleaseOf ReadLeaseOf)
-      → All (λ (r : ReleaseOf ReadLeaseOf). has_queue (home_of old.desk) r.queue.0 ≡ true) all → (length done < length all) × (release ≡ get_or all (length done) release) → IsGiving table number done old now
-      → has_queue (home_of now.desk) release.queue.0 ≡ true
-  next_there table number all done old now release there at is =
-      subst (λ (h : DeskHome). has_queue h release.queue.0 ≡ true) (sym is.only.home)
-      (subst (λ (r : ReleaseOf ReadLeaseOf). has_queue (home_of old.desk) r.queue.0 ≡ true) (sym at.1) (there (length done) release at.0))
-
-  pub giving_more : (table : TableId) (number : ℕ) (done : List (ReleaseOf ReadLeaseOf)) (old now next : ActorSetOf B) (release : ReleaseOf ReadLeaseOf) → IsGiving table number done old now
-      → (reply : QReply B) × MadeCall (home_of now.desk) (view_of now.desk) (view_of next.desk) 0 release.queue.0 (number, call.Release release.lease release.fence) reply → OnlyDesk table (taken_in now.desk.arrivals) now next
-      → IsGiving table number (done ++ release ∷ []) old next
-  giving_more table number done old now next release is made only =
-      let home : home_of now.desk ≡ home_of old.desk = is.only.home in
+  pub gave_all : (table : TableId) (number : ℕ) (releases : List (ReleaseOf ReadLeaseOf)) (old new : ActorSetOf B) → InTurn (GivesBack table number) releases old new → Gave table number releases old new
+  gave_all table number [] old new same = subst (Gave table number [] old) (sym same) (record { gives = refl; only = record { same = refl; home = refl; keep = λ ofs keep. keep } })
+  gave_all table number (release ∷ later) old new gives =
+      let mid = gives.0 in
+      let one = gives.1 in
+      let rest = gave_all table number later mid new gives.2 in
+      let home : home_of mid.desk ≡ home_of old.desk = one.only.home in
       record {
-        gives = gives_more (home_of old.desk) number done release (view_of old.desk) (view_of now.desk) (view_of next.desk) is.gives
-            (record { reply = made.0; made = subst (λ (h : DeskHome). MadeCall h (view_of now.desk) (view_of next.desk) 0 release.queue.0 (number, call.Release release.lease release.fence) made.0) home made.1 });
-        only = subst (λ (taken : ℕ). OnlyDesk table taken old next) (ap (λ (h : DeskHome). h.taken) home) (only_twice table (taken_in old.desk.arrivals) (taken_in now.desk.arrivals) old now next is.only only);
+        gives = (view_of mid.desk, one.gives, subst (λ (h : DeskHome). GiveAll h number later (view_of mid.desk) (view_of new.desk)) home rest.gives);
+        only = subst (λ (taken : ℕ). OnlyDesk table taken old new) (ap (λ (h : DeskHome). h.taken) home) (only_twice table (taken_in old.desk.arrivals) (taken_in mid.desk.arrivals) old mid new one.only rest.only);
       }
-
-  pub giving_all : (table : TableId) (number : ℕ) (all done : List (ReleaseOf ReadLeaseOf)) (old now : ActorSetOf B) → map (λ (r : ReleaseOf ReadLeaseOf). r) done ≡ all → IsGiving table number done old now → IsGiving table number all old now
-  giving_all table number all done old now same is = subst (λ (rs : List (ReleaseOf ReadLeaseOf)). IsGiving table number rs old now) (sym (map_same done) ∙ same) is
 
   -- a desk has each queue that was called
   called_there : (queues : List (ObjectOf B)) (queue : ℕ) (made : Made B) → Contains (calls_among queues queue) made → list_any (λ (mark : QueueMark). mark.queue.0 == queue) (map mark_of queues) ≡ true

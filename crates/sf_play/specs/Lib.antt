@@ -1,4 +1,6 @@
+pub mod ActorDesk
 pub mod Alongs
+pub mod Deciding
 pub mod Ending
 pub mod Fuel
 pub mod Going
@@ -10,6 +12,7 @@ pub mod Playing
 pub mod Showing
 pub mod Standing
 pub mod Actions
+pub mod VsyncOver
 pub mod Vsyncing
 pub use Rattle.sf_play_report.specs.law_played
 pub use Rattle.law_play_order.specs as law_play_order

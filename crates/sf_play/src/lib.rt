@@ -4,18 +4,24 @@
 #![tactic(auto)]
 
 mod action;
+mod actor_desk;
+mod desk;
 mod kept;
 mod laws;
+mod outcome;
 mod place;
 mod player;
+mod vsync;
 
 pub use action::{Action, is_time};
+pub use desk::CompositorDesk;
 pub use kept::KeptReport;
 pub use law_rights::{Actor, ActorSet, permits_for};
 pub use laws::{
     replies_may_be_shown_last, the_next_actor_is_the_one_that_is_tried,
     the_vsyncs_of_rounds_can_be_numbered, what_stands_at_its_end_fits,
 };
+pub use outcome::VsyncOutcome;
 pub use place::Place;
 pub use player::Player;
 pub use sf_play_report::{
@@ -25,3 +31,4 @@ pub use sf_play_report::{
     write_image, write_record,
 };
 pub use sf_script_scene::Scene;
+pub use vsync::vsync_over;

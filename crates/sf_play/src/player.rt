@@ -1,26 +1,19 @@
 //! The player of a scene: actors over one desk, and the compositor. It is begun, or goes on with a
-//! run that threads did, and does a vsync here: it looks at timelines, takes what arrived, decides,
-//! and gives back the frames that go.
-ghost use Rattle.std.specs.Prelude.{◌≡◌, ◌+◌, ◌<◌, ◌≤◌, true, [], All, IfOk, None, OnOk, map};
-ghost use Rattle.sf_play_report.specs.sf_actor.Desks.{has_queue};
-ghost use Rattle.sf_play_report.specs.sf_actor.Plain.{home_of, taken_in, view_of};
-ghost use Rattle.law_rights.specs.sf_actor_set.Compositing.{OnlyDesk};
+//! run that threads did, and makes vsyncs.
+ghost use Rattle.std.specs.Prelude.{◌≡◌, ◌+◌, ◌<◌, ◌≤◌, true, [], IfOk, None, map};
 ghost use Rattle.law_rights.specs.sf_actor_set.Scripts.{permits_of};
-ghost use Rattle.sf_play_report.specs.sf_commit.Releases.{ReleaseOf};
-ghost use Rattle.sf_play_report.specs.sf_surface.Tokens.{ReadLeaseOf};
 ghost use Rattle.sf_play_report.specs.sf_turns.Counts.{range};
-ghost use Rattle.law_rights.specs.Standing.{GiveAll};
 ghost use Rattle.sf_play.specs.Playing.{KeepsItself, MakesReport, MayMakeVsync, expected_by};
 ghost use Rattle.sf_play.specs.Players.{before_round};
 ghost use Rattle.sf_play.specs.Standing.{Begins, IsStanding};
 
+use crate::outcome::VsyncOutcome;
 use crate::place::Place;
+use crate::vsync::vsync_over;
 use law_rights::ActorSet;
 use sf_base::{Items, NoMemory};
 use sf_picture::Painted;
-use sf_play_report::{
-    Committed, Handler, Hold, Lease, ReadLease, Release, Stock, TableName, TurnSeat, VsyncReport,
-};
+use sf_play_report::{Handler, Hold, Lease, ReadLease, Stock, TableName, TurnSeat, VsyncReport};
 use sf_script_scene::{Pick, Scene, most_layers};
 use std::alloc::Global;
 use std::marker::Model;
@@ -60,22 +53,6 @@ impl<B: TableName> Model for Player<B> {
       held = p.held;
       is_spent = p.is_spent;
     }) };
-}
-
-/// Gives frames back to their queues, in order, for the vsync of this number.
-fn release_all<B: TableName>(
-    actor_set: &mut ActorSet<B>,
-    number: u32,
-    releases: Vec<Release<ReadLease<B>>>,
-) -> Result<(), NoMemory>
-    requires there { All (λ (release : ReleaseOf ReadLeaseOf). has_queue (home_of actor_set.old.desk) release.queue.0 ≡ true) releases.items }
-    ensures gives { OnOk result (GiveAll (home_of actor_set.old.desk) number releases.items (view_of actor_set.old.desk) (view_of actor_set.new.desk)) }
-    ensures only { OnOk result (OnlyDesk B.table (taken_in actor_set.old.desk.arrivals) actor_set.old actor_set.new) }
-{
-    for release in releases {
-        actor_set.release(number, release)?;
-    }
-    Ok(())
 }
 
 impl<B: TableName> Player<B> {
@@ -221,22 +198,19 @@ impl<B: TableName> Player<B> {
         let number = self.vsyncs + 1;
         self.vsyncs = number;
         let expected = u64::from(number) * self.period;
-        let seen = self.actor_set.see();
-        let arrived = self.actor_set.take()?;
-        let Committed {
-            commits,
-            releases,
+        let VsyncOutcome {
+            report,
             held,
-        } = self
-            .actor_set
-            .vsync(&mut self.handler, arrived, &seen, expected)?;
-        release_all(&mut self.actor_set, number, releases.into_vec())?;
-        self.held = held;
-        Ok(VsyncReport {
+            taken: _,
+            released: _,
+        } = vsync_over(
+            &mut self.actor_set,
+            &(),
+            &mut self.handler,
             number,
             expected,
-            seen,
-            commits,
-        })
+        )?;
+        self.held = held;
+        Ok(report)
     }
 }

@@ -1,98 +1,111 @@
-use Rattle.std.proofs.Common.{◌≡◌, ℕ, ◌+◌, ◌*◌, ◌≤◌, List, ◌∙◌, ap, arith, refl, rules, subst, sym}
+use Rattle.std.proofs.Common.{◌≡◌, ℕ, ◌+◌, ◌*◌, ◌≤◌, ◌∙◌, ap, arith, refl, rules, subst, sym}
 use Rattle.sf_live_threads.specs.sf_calls_stamped.Stamps.{unstamped}
 use Rattle.sf_live_threads.specs.sf_surface.Tokens.{ReadLeaseOf}
 use Rattle.sf_live_threads.specs.sf_commit.Handlers.{HandlerOf, last_of}
-use Rattle.sf_live_threads.specs.sf_commit.Releases.{ReleaseOf, CommittedOf}
 use Rattle.sf_live_threads.specs.sf_actor.Plain.{taken_in}
 use Rattle.sf_play_write.specs.law_rights.Standing.{GiveAll}
+use Rattle.sf_play_write.specs.sf_play.VsyncOver.{reported}
 use Rattle.sf_live_threads.specs.sf_live_seats.declared.seats.Seats.{Seats}
 use Rattle.sf_live_threads.specs.sf_live_seats.Arriving.{ArrivalsPass}
 use Rattle.sf_live_threads.specs.sf_live_seats.Seats.{home_of, view_of}
 use Rattle.sf_live_threads.proofs.sf_live_seats_lemmas.FirstSeatsKept.{stays_looked, stays_sent}
 use Rattle.sf_live_threads.specs.sf_live_seats.Moves.{MadeLater}
 use Rattle.sf_live_compositor.proofs.GivenBack.{makes_lent}
-use Rattle.sf_live_compositor.proofs.SeatGrowth.{reported, stays_on}
+use Rattle.sf_live_compositor.proofs.SeatGrowth.{gave_all, stays_on}
 use Rattle.sf_live_compositor.proofs.TakenNumbers.{take_rises}
 use Rattle.sf_live_compositor.proofs.vsync.make_vsync.Goals as goal
 
-pub vsync-requires-clause-rising : goal.vsync-requires-clause-rising
-vsync-requires-clause-rising g c = λ alive.
-    (take_rises c.args.handler.now.last c.see-seen.new.self.arrivals c.take.new.self.arrivals c.in_ok-arrived.arrived.items c.in_ok-arrived.ensures.took.took
-    (subst (λ (p : ArrivalsPass). c.args.handler.now.last ≤ taken_in (unstamped p.seen)) (sym (ap (λ (s : Seats g.row.B.Denot). s.arrivals) c.see-seen.ensures.same)) c.requires.known)).rising
+pub vsync_over-requires : goal.vsync_over-requires
+vsync_over-requires g c = record {
+  stands = record { own = c.requires.own; first = c.requires.first };
+  rising = λ looked seen sees took arrived takes.
+      (take_rises c.args.handler.now.last looked.arrivals took.arrivals arrived takes.takes.took
+      (subst (λ (p : ArrivalsPass). c.args.handler.now.last ≤ taken_in (unstamped p.seen)) (sym (ap (λ (s : Seats g.row.B.Denot). s.arrivals) sees.same)) c.requires.known)).rising;
+  may = λ seen told after new decided n release low. tt;
+}
 
 pub returns-clause-makes : goal.returns-clause-makes
 returns-clause-makes g c =
     let number = c.from.ensures in
-    let looked = c.see-seen.new.self in
-    let took = c.take.new.self in
-    let decided = c.vsync.new.self in
-    let after = c.release_all.new.seats in
+    let made = c.in_ok-report.ensures.makes in
+    let is_decided = made.decided in
+    let by = is_decided.by in
+    let looked = is_decided.looked in
+    let took = by.took in
+    let decided = made.mid in
+    let after = c.vsync_over.new.desk in
+    let gave = gave_all g.B.TableName.table c.args.locks.now (c.args.before + 1) made.told.releases decided after made.gives in
     let on =
     stays_on c.args.seats.now decided after
-    (stays_on c.args.seats.now took decided (stays_on c.args.seats.now looked took c.see-seen.ensures.stays (stays_sent looked took c.take.ensures.changes))
-    (stays_looked took decided c.vsync.ensures.same c.vsync.ensures.goes)) c.in_ok-release_all.ensures.stays in
+    (stays_on c.args.seats.now took decided (stays_on c.args.seats.now looked took is_decided.sees.stays (stays_sent looked took by.takes.changes))
+    (stays_looked took decided by.same.same by.same.goes)) gave.stays in
     record {
       makes = λ was lent.
           makes_lent _ g.B.TableName.table c.args.locks.now c.args.period was (record { handler = c.args.handler.now; seats = c.args.seats.now; number = c.args.before })
-          (record { handler = c.vsync.new.handler; seats = after; number = c.args.before + 1 }) _ lent (record {
-            own = c.in_ok-release_all.ensures.own;
+          (record { handler = c.vsync_over.new.handler; seats = after; number = c.args.before + 1 }) _ lent (record {
+            own = c.vsync_over.ensures.stands.own;
             caller = on.number;
             stays = on;
             counted = refl;
-            seen = c.see-seen.result;
+            seen = c.in_ok-report.field-0.report.seen;
             looked = looked;
-            look = c.see-seen.ensures.same;
-            sees = c.see-seen.ensures.sees;
+            look = is_decided.sees.same;
+            sees = is_decided.sees.sees;
             took = took;
-            arrived = c.in_ok-arrived.arrived.items;
-            takes = c.in_ok-arrived.ensures.took;
-            changes = c.take.ensures.changes;
+            arrived = by.arrived;
+            takes = by.takes.takes;
+            changes = by.takes.changes;
             early = λ m there.
-                let known = c.take.ensures.own.in_order.step m there in
-                let same = c.in_ok-arrived.ensures.took.step in
-                let looked_same = ap (λ (s : Seats g.row.B.Denot). s.last.step) c.see-seen.ensures.same in
+                let known = by.takes.own.in_order.step m there in
+                let same = by.takes.takes.step in
+                let looked_same = ap (λ (s : Seats g.row.B.Denot). s.last.step) is_decided.sees.same in
                 omega (arith, known, same, looked_same, c.requires.early);
-            arrivals = c.in_ok-release_all.ensures.arrivals ∙ ap (λ (s : Seats g.row.B.Denot). s.arrivals) c.vsync.ensures.same;
+            arrivals = gave.arrivals ∙ ap (λ (s : Seats g.row.B.Denot). s.arrivals) by.same.same;
             expected = (c.args.before + 1) * c.args.period;
             due = refl;
-            told = c.in_ok-commits.field-0;
+            told = made.told;
             turns = decided.turns;
-            decides = rw (← number) c.in_ok-commits.ensures.decides;
+            decides = rw (← number) by.decides;
             gives =
-                subst (λ (d : Seats g.row.B.Denot). GiveAll (home_of c.args.locks.now d) (c.args.before + 1) c.in_ok-commits.field-0.releases (view_of d) (view_of after)) c.vsync.ensures.same
-                (subst (λ (rs : List (ReleaseOf ReadLeaseOf)). GiveAll (home_of c.args.locks.now decided) (c.args.before + 1) rs (view_of decided) (view_of after))
-                (c.into_vec.ensures ∙ ap (λ (v : CommittedOf ReadLeaseOf). v.releases) c.commits.view_is) c.in_ok-release_all.ensures.gives);
-            later = subst (λ (d : Seats g.row.B.Denot). MadeLater d after) c.vsync.ensures.same c.in_ok-release_all.ensures.later;
-            last = subst (λ (d : Seats g.row.B.Denot). d.last.stamp ≤ after.last.stamp) c.vsync.ensures.same c.in_ok-release_all.ensures.last;
-            same_turns = c.release_all.ensures.turns;
-            is =
-                ap (λ (n : ℕ). reported c.args.before c.see-seen.result (n * c.args.period) c.in_ok-commits.field-0) (sym number)
-                ∙ ap (reported c.args.before c.see-seen.result (c.from.result * c.args.period)) (sym c.commits.view_is);
+                subst (λ (d : Seats g.row.B.Denot). GiveAll (home_of c.args.locks.now d) (c.args.before + 1) made.told.releases (view_of d) (view_of after)) by.same.same gave.gives;
+            later = subst (λ (d : Seats g.row.B.Denot). MadeLater d after) by.same.same gave.later;
+            last = subst (λ (d : Seats g.row.B.Denot). d.last.stamp ≤ after.last.stamp) by.same.same gave.last;
+            same_turns = gave.turns;
+            is = ap (λ (n : ℕ). reported (c.args.before + 1) (n * c.args.period) c.in_ok-report.field-0.report.seen made.told) (sym number) ∙ sym made.report;
           });
     }
 
 pub returns-clause-known : goal.returns-clause-known
 returns-clause-known g c =
+    let made = c.in_ok-report.ensures.makes in
+    let is_decided = made.decided in
+    let by = is_decided.by in
+    let gave = gave_all g.B.TableName.table c.args.locks.now (c.args.before + 1) made.told.releases made.mid c.vsync_over.new.desk made.gives in
     let rises =
-    take_rises c.args.handler.now.last c.see-seen.new.self.arrivals c.take.new.self.arrivals c.in_ok-arrived.arrived.items c.in_ok-arrived.ensures.took.took
-    (subst (λ (p : ArrivalsPass). c.args.handler.now.last ≤ taken_in (unstamped p.seen)) (sym (ap (λ (s : Seats g.row.B.Denot). s.arrivals) c.see-seen.ensures.same)) c.requires.known) in
-    let arrivals : c.release_all.new.seats.arrivals ≡ c.take.new.self.arrivals = c.in_ok-release_all.ensures.arrivals ∙ ap (λ (s : Seats g.row.B.Denot). s.arrivals) c.vsync.ensures.same in
-    let last : c.vsync.new.handler.last ≡ last_of c.args.handler.now.last c.in_ok-arrived.arrived.items =
-    ap (λ (h : HandlerOf ReadLeaseOf). h.last) c.in_ok-commits.ensures.decides.settled.state in
-    subst (λ (p : ArrivalsPass). c.vsync.new.handler.last ≤ taken_in (unstamped p.seen)) (sym arrivals) (subst (λ (n : ℕ). n ≤ taken_in (unstamped c.take.new.self.arrivals.seen)) (sym last) rises.known)
+    take_rises c.args.handler.now.last is_decided.looked.arrivals by.took.arrivals by.arrived by.takes.takes.took
+    (subst (λ (p : ArrivalsPass). c.args.handler.now.last ≤ taken_in (unstamped p.seen)) (sym (ap (λ (s : Seats g.row.B.Denot). s.arrivals) is_decided.sees.same)) c.requires.known) in
+    let arrivals : c.vsync_over.new.desk.arrivals ≡ by.took.arrivals = gave.arrivals ∙ ap (λ (s : Seats g.row.B.Denot). s.arrivals) by.same.same in
+    let last : c.vsync_over.new.handler.last ≡ last_of c.args.handler.now.last by.arrived =
+    ap (λ (h : HandlerOf ReadLeaseOf). h.last) by.decides.settled.state in
+    subst (λ (p : ArrivalsPass). c.vsync_over.new.handler.last ≤ taken_in (unstamped p.seen)) (sym arrivals)
+    (subst (λ (n : ℕ). n ≤ taken_in (unstamped by.took.arrivals.seen)) (sym last) rises.known)
 
 pub returns-clause-early : goal.returns-clause-early
 returns-clause-early g c =
-    let same = c.in_ok-arrived.ensures.took.step in
-    let looked = ap (λ (s : Seats g.row.B.Denot). s.last.step) c.see-seen.ensures.same in
-    let decided = ap (λ (s : Seats g.row.B.Denot). s.last.step) c.vsync.ensures.same in
-    c.in_ok-release_all.ensures.early (omega (arith, same, looked, decided, c.requires.early))
+    let made = c.in_ok-report.ensures.makes in
+    let is_decided = made.decided in
+    let by = is_decided.by in
+    let gave = gave_all g.B.TableName.table c.args.locks.now (c.args.before + 1) made.told.releases made.mid c.vsync_over.new.desk made.gives in
+    let same = by.takes.takes.step in
+    let looked = ap (λ (s : Seats g.row.B.Denot). s.last.step) is_decided.sees.same in
+    let decided = ap (λ (s : Seats g.row.B.Denot). s.last.step) by.same.same in
+    gave.early (omega (arith, same, looked, decided, c.requires.early))
 
-pub returns-in_err-arrived-clause-makes : goal.returns-in_err-arrived-clause-makes
-returns-in_err-arrived-clause-makes g c = record { makes = λ was lent. search rules }
+pub returns-clause-table : goal.returns-clause-table
+returns-clause-table g c = c.vsync_over.ensures.stands.own.own_turns ∙ sym c.requires.own.own_turns
 
-pub returns-in_err-commits-clause-makes : goal.returns-in_err-commits-clause-makes
-returns-in_err-commits-clause-makes g c = record { makes = λ was lent. search rules }
+pub returns-in_err-report-clause-makes : goal.returns-in_err-report-clause-makes
+returns-in_err-report-clause-makes g c = record { makes = λ was lent. search rules }
 
-pub returns-in_err-release_all-clause-makes : goal.returns-in_err-release_all-clause-makes
-returns-in_err-release_all-clause-makes g c = record { makes = λ was lent. search rules }
+pub returns-in_err-report-clause-table : goal.returns-in_err-report-clause-table
+returns-in_err-report-clause-table g c = c.vsync_over.ensures.stands.own.own_turns ∙ sym c.requires.own.own_turns

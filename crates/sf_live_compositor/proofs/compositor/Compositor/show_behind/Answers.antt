@@ -44,17 +44,17 @@ pub returns-in_default-clause-later : goal.returns-in_default-clause-later
 returns-in_default-clause-later g c = subst (λ s. g.K.Sink.faults c.args.self.now.sink.now ≤ g.K.Sink.faults s.now) (sym c.make_behind-composed.ensures.sink) (omega arith)
 
 pub returns-in-Err-write_vsync-clause-later : goal.returns-in-Err-write_vsync-clause-later
-returns-in-Err-write_vsync-clause-later g c = subst (λ s. g.K.Sink.faults s.now ≤ g.K.Sink.faults c.write_vsync.new.sink) c.make_behind-composed.ensures.sink c.write_vsync.ensures.later
+returns-in-Err-write_vsync-clause-later g c = subst (λ s. g.K.Sink.faults s.now ≤ g.K.Sink.faults c.write_vsync.new.sink) c.make_behind-composed.ensures.sink c.write_vsync.ensures.wrote.later
 
 pub returns-in-Err-made-clause-later : goal.returns-in-Err-made-clause-later
-returns-in-Err-made-clause-later g c = subst (λ s. g.K.Sink.faults s.now ≤ g.K.Sink.faults c.write_vsync.new.sink) c.make_behind-composed.ensures.sink c.write_vsync.ensures.later
+returns-in-Err-made-clause-later g c = subst (λ s. g.K.Sink.faults s.now ≤ g.K.Sink.faults c.write_vsync.new.sink) c.make_behind-composed.ensures.sink c.write_vsync.ensures.wrote.later
 
 pub returns-in-Ok-made-clause-later : goal.returns-in-Ok-made-clause-later
-returns-in-Ok-made-clause-later g c = subst (λ s. g.K.Sink.faults s.now ≤ g.K.Sink.faults c.write_vsync.new.sink) c.make_behind-composed.ensures.sink c.write_vsync.ensures.later
+returns-in-Ok-made-clause-later g c = subst (λ s. g.K.Sink.faults s.now ≤ g.K.Sink.faults c.write_vsync.new.sink) c.make_behind-composed.ensures.sink c.write_vsync.ensures.wrote.later
 
 pub returns-in-Err-write_vsync-clause-failed : goal.returns-in-Err-write_vsync-clause-failed
 returns-in-Err-write_vsync-clause-failed g c = λ is.
-    subst (λ s. Rose (g.K.Sink.faults s.now) (g.K.Sink.faults c.write_vsync.new.sink)) c.make_behind-composed.ensures.sink (c.write_vsync.ensures.failed (c.in-Err-write_vsync.is ∙ ap (λ (f : RunFault). Err f) (err_fault c.in-Err-write_vsync.fault is)))
+    subst (λ s. Rose (g.K.Sink.faults s.now) (g.K.Sink.faults c.write_vsync.new.sink)) c.make_behind-composed.ensures.sink (c.write_vsync.ensures.wrote.failed (c.in-Err-write_vsync.is ∙ ap (λ (f : RunFault). Err f) (err_fault c.in-Err-write_vsync.fault is)))
 
 pub returns-in-Err-clause-cut : goal.returns-in-Err-clause-cut
 returns-in-Err-clause-cut g c =
@@ -77,7 +77,7 @@ returns-in-Err-write_vsync-clause-cut g c =
     let timelines = c.deref.ensures.value ∙ ap (λ (s : Shows). s.timelines.items) mid.ensures.same.shows in
     subst (λ s. CutsVsync self.shows.plan self.shows.timelines.items layers c.args.last (g.K.Sink.taken s.now) (g.K.Sink.taken c.write_vsync.new.sink)) mid.ensures.sink
     (subst (λ (ts : List ℕ). CutsVsync self.shows.plan ts layers c.args.last (g.K.Sink.taken mid.new.self.sink.now) (g.K.Sink.taken c.write_vsync.new.sink)) timelines
-    (vsync_begun self.shows.plan c.deref.result.now layers c.args.last _ _ c.in-Ok.views.items c.in-Ok-composed.images.items c.in-Ok.ensures.due all.outputs c.in-Err-write_vsync.ensures.err))
+    (vsync_begun self.shows.plan c.deref.result.now layers c.args.last _ _ c.in-Ok.views.items c.in-Ok-composed.images.items c.in-Ok.ensures.due all.outputs c.in-Err-write_vsync.ensures.wrote.err))
 
 pub returns-in-Err-made-clause-cut : goal.returns-in-Err-made-clause-cut
 returns-in-Err-made-clause-cut g c =
@@ -89,7 +89,7 @@ returns-in-Err-made-clause-cut g c =
     subst (λ s. CutsVsync self.shows.plan self.shows.timelines.items layers c.args.last (g.K.Sink.taken s.now) (g.K.Sink.taken c.write_vsync.new.sink)) mid.ensures.sink
     (subst (λ (ts : List ℕ). CutsVsync self.shows.plan ts layers c.args.last (g.K.Sink.taken mid.new.self.sink.now) (g.K.Sink.taken c.write_vsync.new.sink)) timelines
     (vsync_whole self.shows.plan c.deref.result.now layers c.args.last _ _
-    (vsync_told self.shows.plan c.deref.result.now layers c.args.last _ _ c.in-Ok.views.items c.in-Ok-composed.images.items c.in-Ok.ensures.due all.outputs c.in-Ok-write_vsync.ensures.ok)))
+    (vsync_told self.shows.plan c.deref.result.now layers c.args.last _ _ c.in-Ok.views.items c.in-Ok-composed.images.items c.in-Ok.ensures.due all.outputs c.in-Ok-write_vsync.ensures.wrote.ok)))
 
 pub returns-in-Ok-made-clause-told : goal.returns-in-Ok-made-clause-told
 returns-in-Ok-made-clause-told g c =
@@ -100,7 +100,7 @@ returns-in-Ok-made-clause-told g c =
     let timelines = c.deref.ensures.value ∙ ap (λ (s : Shows). s.timelines.items) mid.ensures.same.shows in
     subst (λ s. WritesVsync self.shows.plan self.shows.timelines.items layers c.args.last (g.K.Sink.taken s.now) (g.K.Sink.taken c.write_vsync.new.sink)) mid.ensures.sink
     (subst (λ (ts : List ℕ). WritesVsync self.shows.plan ts layers c.args.last (g.K.Sink.taken mid.new.self.sink.now) (g.K.Sink.taken c.write_vsync.new.sink)) timelines
-    (vsync_told self.shows.plan c.deref.result.now layers c.args.last _ _ c.in-Ok.views.items c.in-Ok-composed.images.items c.in-Ok.ensures.due all.outputs c.in-Ok-write_vsync.ensures.ok))
+    (vsync_told self.shows.plan c.deref.result.now layers c.args.last _ _ c.in-Ok.views.items c.in-Ok-composed.images.items c.in-Ok.ensures.due all.outputs c.in-Ok-write_vsync.ensures.wrote.ok))
 
 pub returns-in-Ok-made-clause-written : goal.returns-in-Ok-made-clause-written
 returns-in-Ok-made-clause-written g c = λ pictures expected was.
@@ -115,7 +115,7 @@ returns-in-Ok-made-clause-written g c = λ pictures expected was.
       subst (λ s. Writes (g.K.Sink.taken s.now) (g.K.Sink.taken c.write_vsync.new.sink) (vsync_shown pictures self.shows.plan self.shows.timelines.items c.args.last layers)) mid.ensures.sink
           (subst (Writes (g.K.Sink.taken mid.new.self.sink.now) (g.K.Sink.taken c.write_vsync.new.sink))
           (records_are pictures self.shows.plan c.deref.result.now c.args.last layers views images c.in-Ok.ensures.due composed ∙ ap (λ (ts : List ℕ). vsync_shown pictures self.shows.plan ts c.args.last layers) timelines)
-          c.in-Ok-write_vsync.ensures.ok),
+          c.in-Ok-write_vsync.ensures.wrote.ok),
       c.in-Ok-write_vsync.ensures.shown pictures (composed_shown pictures views images composed) (mid.ensures.shown pictures was),
     )
 

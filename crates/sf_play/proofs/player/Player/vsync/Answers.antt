@@ -1,58 +1,57 @@
-use Rattle.std.proofs.Common.{◌≡◌, ap, refl, subst, sym, true, ◌∙◌, ◌+◌, ◌*◌, List, ℕ}
-use Rattle.std.specs.List.{All}
-use Rattle.sf_play_report.specs.sf_commit.Releases.{CommittedOf, ReleaseOf}
-use Rattle.sf_play_report.specs.sf_surface.Tokens.{ReadLeaseOf}
-use Rattle.sf_play_report.specs.sf_actor.Desks.{DeskHome, has_queue}
-use Rattle.sf_play_report.specs.sf_actor.Plain.{home_of, taken_in, view_of}
-use Rattle.law_rights.specs.Standing.{GiveAll}
+use Rattle.std.proofs.Common.{◌≡◌, ap, refl, subst, sym, ◌∙◌, ◌+◌, ◌*◌, ℕ}
+use Rattle.sf_play_report.specs.declared.report.VsyncReport.{VsyncReport}
+use Rattle.sf_play_report.specs.sf_actor.Desks.{DeskHome}
+use Rattle.sf_play_report.specs.sf_actor.Plain.{home_of, taken_in}
 use Rattle.sf_play.specs.Players.{PlayOf, PlayerOf, Stands}
-use Rattle.sf_play.proofs.VsyncParts.{queues_there, rises_then}
+use Rattle.sf_play.proofs.VsyncParts.{gave_all, queues_there, rises_then}
 use Rattle.sf_play.proofs.player.Player.vsync.Goals as goal
 
-pub vsync-requires : goal.vsync-requires
-vsync-requires g c =
+pub vsync_over-requires : goal.vsync_over-requires
+vsync_over-requires g c =
     let play : PlayOf g.row.B.Denot = record { period = c.self.inside.period; order = c.self.inside.order; actor_set = c.self.inside.actor_set; handler = c.self.inside.handler; vsyncs = c.self.inside.vsyncs } in
-    let stands = subst (λ (p : PlayerOf g.row.B.Denot). Stands g.B.TableName.table c.requires.may.scene c.requires.may.so p.play) (sym c.self.view_is) c.requires.may.stands in
-    record { rising = λ alive. rises_then _ c.requires.may.scene c.requires.may.so play stands c.see-seen.new.self c.see-seen.ensures.times c.in_ok-arrived.arrived.items c.take.new.self.desk.arrivals c.in_ok-arrived.ensures.taken }
-
-pub release_all-requires : goal.release_all-requires
-release_all-requires g c =
-    let play : PlayOf g.row.B.Denot = record { period = c.self.inside.period; order = c.self.inside.order; actor_set = c.self.inside.actor_set; handler = c.self.inside.handler; vsyncs = c.self.inside.vsyncs } in
-    let stands = subst (λ (p : PlayerOf g.row.B.Denot). Stands g.B.TableName.table c.requires.may.scene c.requires.may.so p.play) (sym c.self.view_is) c.requires.may.stands in
-    let taken = taken_in c.take.new.self.desk.arrivals in
-    let home : home_of c.vsync.new.self.desk ≡ record (home_of c.self.inside.actor_set.desk) { taken = taken } =
-    c.vsync.ensures.only.home ∙ ap (λ (h : DeskHome). record h { taken = taken }) (c.take.ensures.only.home ∙ ap (λ (h : DeskHome). record h { taken = taken }) c.see-seen.ensures.only.home) in
-    let there = queues_there _ c.requires.may.scene c.requires.may.so play stands c.see-seen.new.self c.see-seen.ensures.times c.in_ok-arrived.arrived.items c.take.new.self.desk.arrivals c.in_ok-arrived.ensures.taken
-    _ c.vsync.new.handler c.take.new.self.desk.turns c.vsync.new.self.desk.turns c.see-seen.result (c.from.result * c.self.inside.period) c.in_ok-commits.field-0 c.in_ok-commits.ensures.decides
-    (record { plain = λ a b e. e; picture = λ a b e. e; number = λ a b e. ap (λ (p : ℕ × ℕ). p.1) e }) taken (home_of c.vsync.new.self.desk) home in
-    record { there = subst (λ (rs : List (ReleaseOf ReadLeaseOf)). All (λ (r : ReleaseOf ReadLeaseOf). has_queue (home_of c.vsync.new.self.desk) r.queue.0 ≡ true) rs) (sym (c.into_vec.ensures ∙ ap (λ (v : CommittedOf ReadLeaseOf). v.releases) c.commits.view_is)) there }
+    let scene = c.requires.may.scene in
+    let so = c.requires.may.so in
+    let stands = subst (λ (p : PlayerOf g.row.B.Denot). Stands g.B.TableName.table scene so p.play) (sym c.self.view_is) c.requires.may.stands in
+    record {
+      stands = tt;
+      rising = λ looked seen sees took arrived takes. rises_then _ scene so play stands looked sees.times arrived took.desk.arrivals takes.takes;
+      may = λ seen told after new d.
+          let taken = taken_in d.by.took.desk.arrivals in
+          let home : home_of new.desk ≡ record (home_of c.self.inside.actor_set.desk) { taken = taken } =
+          d.by.same.only.home ∙ ap (λ (h : DeskHome). record h { taken = taken }) (d.by.takes.only.home ∙ ap (λ (h : DeskHome). record h { taken = taken }) d.sees.only.home) in
+          queues_there _ scene so play stands d.looked d.sees.times d.by.arrived d.by.took.desk.arrivals d.by.takes.takes _ after d.by.took.desk.turns new.desk.turns seen (c.from.result * c.self.inside.period) told d.by.decides
+          (record { plain = λ a b e. e; picture = λ a b e. e; number = λ a b e. ap (λ (p : ℕ × ℕ). p.1) e }) taken (home_of new.desk) home;
+    }
 
 pub returns-clause-makes : goal.returns-clause-makes
 returns-clause-makes g c =
     let number = c.from.ensures in
+    let made = c.in_ok-report.ensures.makes in
+    let decided = made.decided in
+    let by = decided.by in
+    let gave = gave_all g.B.TableName.table (c.self.inside.vsyncs + 1) made.told.releases made.mid c.vsync_over.new.desk made.gives in
     rw (← c.self.view_is) (record {
-      told = c.in_ok-commits.field-0;
+      told = made.told;
       makes = record {
-        looked = c.see-seen.new.self;
-        sees = c.see-seen.ensures.sees;
-        times = c.see-seen.ensures.times;
-        only_looks = c.see-seen.ensures.only;
-        took = c.take.new.self;
-        arrived = c.in_ok-arrived.arrived.items;
-        takes = c.in_ok-arrived.ensures.taken;
-        arrivals = c.take.ensures.arrivals;
-        only_takes = c.take.ensures.only;
-        decided = c.vsync.new.self;
-        decides = rw (← number) c.in_ok-commits.ensures.decides;
-        turns = c.vsync.ensures.turns;
-        only_decides = c.vsync.ensures.only;
-        gives = subst (λ (rs : List (ReleaseOf ReadLeaseOf)). GiveAll (home_of c.vsync.new.self.desk) (c.self.inside.vsyncs + 1) rs (view_of c.vsync.new.self.desk) (view_of c.release_all.new.actor_set.desk))
-            (c.into_vec.ensures ∙ ap (λ (v : CommittedOf ReadLeaseOf). v.releases) c.commits.view_is) c.in_ok-release_all.ensures.gives;
-        only_gives = c.in_ok-release_all.ensures.only;
+        looked = decided.looked;
+        sees = decided.sees.sees;
+        times = decided.sees.times;
+        only_looks = decided.sees.only;
+        took = by.took;
+        arrived = by.arrived;
+        takes = by.takes.takes;
+        arrivals = by.takes.arrivals;
+        only_takes = by.takes.only;
+        decided = made.mid;
+        decides = rw (← number) by.decides;
+        turns = by.same.turns;
+        only_decides = by.same.only;
+        gives = gave.gives;
+        only_gives = gave.only;
         rest = refl;
       };
-      number = refl;
-      expected = ap (λ (n : ℕ). n * c.self.inside.period) number;
-      commits = ap (λ (v : CommittedOf ReadLeaseOf). v.commits) c.commits.view_is;
-      held = ap (λ (v : CommittedOf ReadLeaseOf). v.held) c.commits.view_is;
+      number = ap (λ (r : VsyncReport). r.number) made.report;
+      expected = ap (λ (r : VsyncReport). r.expected) made.report ∙ ap (λ (n : ℕ). n * c.self.inside.period) number;
+      commits = ap (λ (r : VsyncReport). r.commits) made.report;
+      held = made.held;
     })
