@@ -1,7 +1,8 @@
 -- The records of actions, and how far a play has been written.
-use Rattle.std.proofs.Common.{◌≡◌, ℕ, suc, ◌-◌, ◌<◌, ◌≤◌, Bool, not, ◌||◌, if◌then◌else◌, List, [], ◌∷◌, ◌++◌, length, get_or, map, filter, Option, Some, refl, ap, ◌∙◌, sym, subst, arith}
+use Rattle.std.proofs.Common.{◌≡◌, ℕ, suc, ◌-◌, ◌<◌, ◌≤◌, Bool, true, false, ◌||◌, if◌then◌else◌, List, [], ◌∷◌, ◌++◌, length, get_or, map, filter, Option, Some, refl, ap, ◌∙◌, sym, subst, arith}
 use Rattle.std.specs.Prelude.{All, Contains, ◌==◌, slice_get}
 use Rattle.std.specs.List.{flat_map, list_any, range_with_len}
+use Rattle.std.proofs.lemmas.Bool.{false≢true}
 use Rattle.std.proofs.lemmas.List.{append-nil}
 use Rattle.std.proofs.lemmas.List.Concat.{flat_map-append}
 use Rattle.std.proofs.lemmas.List.Elements.{All-contains, All-weaker}
@@ -37,7 +38,7 @@ use Rattle.sf_play.specs.law_played.Replies.{reply_shown}
 use Rattle.sf_play.specs.law_played.Seeing.{value_shown}
 use Rattle.sf_play.specs.law_played.Vsyncs.{rising_timelines}
 use Rattle.sf_output_screen.specs.ScreenLists.{AreShown}
-use Rattle.sf_play.specs.Going.{GoesAlong}
+use Rattle.sf_play.specs.Going.{GoesAlong, LeavesLess, fuel_of}
 use Rattle.sf_play.specs.Happening.{VsyncHappens}
 use Rattle.sf_play.specs.Players.{PlayOf, PlayerOf, SoFar}
 use Rattle.sf_play.specs.Showing.{vsync_shown as play_shown}
@@ -48,7 +49,7 @@ use Rattle.sf_play_write.specs.declared.shows.Shows.{Shows}
 use Rattle.sf_play_write.specs.Runs.{CutRun}
 use Rattle.sf_play_write.specs.Showing.{IsOfScene, Written}
 use Rattle.sf_play.specs.Actions.{is_end}
-use Rattle.sf_play_write.specs.inner.Rows.{IsWriting, MayShowAction, GoesOnWriting, newest_of, newest_shown, action_shown}
+use Rattle.sf_play_write.specs.inner.Rows.{HasWritten, IsWriting, MayShowAction, newest_of, newest_shown, action_shown}
 use Rattle.sf_play_write.specs.Vsyncs.{records_if, told_with}
 use Rattle.sf_play_write.specs.Writing.{Writes, WritesPart}
 use Rattle.sf_play_write.proofs.WritingLemmas.{part_front, part_more, writes_more}
@@ -159,16 +160,24 @@ module _ {B : Type 0} where
         shown = shown;
       }
 
-  pub actions_on : (table : TableId) (scene : SceneValue) (shows : Shows) (start : Option (List ℕ)) (before after : Written B) (came_to : Action) (w : IsWriting table scene shows start before)
+  -- the last one was, with which the play is at its end
+  pub action_ends : (table : TableId) (scene : SceneValue) (shows : Shows) (start : Option (List ℕ)) (before after : Written B) (came_to : Action) (w : IsWriting table scene shows start before)
       → GoesAlong table scene w.so came_to after.player → Writes before.taken after.taken (action_shown (picture_at scene.pictures) shows after.player.play came_to) → AreShown (picture_at scene.pictures) after.screens
-      → GoesOnWriting (not (is_end came_to)) table scene shows start after
+      → is_end came_to ≡ true → HasWritten table scene start after.taken after.player
   unfolding goes_on
-  actions_on table scene shows start before after action.End w goes now shown =
+  action_ends table scene shows start before after action.End w goes now shown ends =
       let on = goes_on table scene shows start before after action.End w goes now shown in
       record { so = goes.later; stands = goes.stands; written = on.written; ends = goes.tells }
-  actions_on table scene shows start before after (action.Step place) w goes now shown = goes_on table scene shows start before after (action.Step place) w goes now shown
-  actions_on table scene shows start before after action.Idle w goes now shown = goes_on table scene shows start before after action.Idle w goes now shown
-  actions_on table scene shows start before after (action.Vsync report) w goes now shown = goes_on table scene shows start before after (action.Vsync report) w goes now shown
+  action_ends table scene shows start before after (action.Step place) w goes now shown ends = absurd (false≢true ends)
+  action_ends table scene shows start before after action.Idle w goes now shown ends = absurd (false≢true ends)
+  action_ends table scene shows start before after (action.Vsync report) w goes now shown ends = absurd (false≢true ends)
+
+  -- any other one leaves less to do
+  pub leaves_less : (came_to : Action) (old new : PlayerOf B) → LeavesLess came_to old new → is_end came_to ≡ false → fuel_of new < fuel_of old
+  leaves_less action.End old new less goes = absurd (false≢true (sym goes))
+  leaves_less (action.Step place) old new less goes = less
+  leaves_less action.Idle old new less goes = less
+  leaves_less (action.Vsync report) old new less goes = less
 
   -- what was written of an action begins the records of the play
   pub cut_so_far : (table : TableId) (scene : SceneValue) (start now : Option (List ℕ)) (so : SoFar B) (player : PlayerOf B) → StandsAlong table scene so player

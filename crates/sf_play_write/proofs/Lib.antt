@@ -1,4 +1,5 @@
 pub mod WritingLemmas
+pub mod WroteLemmas
 pub mod VsyncLemmas
 pub mod ClosingLemmas
 pub mod ActionLemmas

@@ -2,7 +2,7 @@
 use Rattle.std.proofs.Common.{◌≡◌, ℕ, Bool, true, false, if◌then◌else◌, List, [], ◌∷◌, ◌++◌, drop, map, take, Option, Some, Result, Ok, Err, refl, ap, ◌∙◌, sym, subst, IfOk, OnErr, OnOk}
 use Rattle.std.specs.Prelude.{IfSome, pos}
 use Rattle.std.specs.List.{All, AllZip}
-use Rattle.std.proofs.lemmas.List.Elements.{All-cons, All-nil}
+use Rattle.std.proofs.lemmas.List.Elements.{All-cons, All-nil, All-push}
 use Rattle.byteorder.specs.Endian.{big_bytes}
 use Rattle.std.proofs.lemmas.Bool.{false≢true}
 use Rattle.std.proofs.lemmas.List.{drop_at, map-append, take_at}
@@ -41,8 +41,8 @@ use Rattle.sf_output_screen.proofs.sf_view_lemmas.ImageLemmas.{view_image-order}
 use Rattle.sf_output_screen.specs.sf_view.Image.{image_in}
 use Rattle.sf_output_screen.specs.sf_view.Stacks.{view_image}
 use Rattle.sf_output_screen.specs.sf_view.Views.{ViewOf}
-use Rattle.sf_play_write.proofs.WritingLemmas.{part_front, part_more, part_none, part_whole, writes_more}
-use Rattle.sf_play_write.specs.Vsyncs.{AreComposed, AreOutputsDue, AreSameOutputs, AreViewsDue, CutsVsync, IsComposed, IsViewDue, WritesVsync, pixels_in, pixels_of, records_by, records_if, shown_record, told_by, vsync_shown, without_image}
+use Rattle.sf_play_write.proofs.WritingLemmas.{part_none, part_whole}
+use Rattle.sf_play_write.specs.Vsyncs.{AreComposed, AreOutputsDue, AreSameOutputs, AreViewsDue, CutsVsync, HasView, IsComposed, IsViewDue, WritesVsync, pixels_in, pixels_of, records_by, records_if, shown_record, told_by, vsync_shown, without_image}
 use Rattle.sf_play_write.specs.Writing.{Writes, WritesPart}
 
 pub with_more : (A B : Type 0) (r : Result (Unit {0}) RunFault) → OnOk r A → B → OnOk r (A × B)
@@ -50,7 +50,7 @@ with_more A B (Ok u) a b = (a, b)
 with_more A B (Err e) a b = tt
 
 -- what a screen shows are the bytes of its view's image
-pub frame_bytes_are : (pictures : ℕ → Picture) (view : ViewOf) (screen : ScreenOf) → screen.view ≡ Some view → IsWhole view screen.frame → IsShown pictures screen → screen.frame ≡ image_bytes pictures view
+frame_bytes_are : (pictures : ℕ → Picture) (view : ViewOf) (screen : ScreenOf) → screen.view ≡ Some view → IsWhole view screen.frame → IsShown pictures screen → screen.frame ≡ image_bytes pictures view
 frame_bytes_are pictures view screen is whole shown =
     shown_bytes pictures view screen.frame whole (subst (λ (o : Option ViewOf). IfSome o (λ v. ShowsView pictures v screen.frame)) is shown)
 
@@ -88,22 +88,6 @@ pub no_records : (commits : List Commit) (told : VsyncRecords) → has_commits c
 no_records [] told is = refl
 no_records (commit ∷ commits) told is = absurd (false≢true (sym is))
 
--- what was written of its records, as they come
-pub head_cut : (a b : Option (List ℕ)) (head : Record) (rest all : List Record) → head ∷ rest ≡ all → WritesPart a b (head ∷ []) → WritesPart a b all
-head_cut a b head rest all is part = subst (WritesPart a b) is (part_front a b (head ∷ []) rest part)
-
-pub middle_cut : (a b c : Option (List ℕ)) (head : Record) (middle tail all : List Record) → head ∷ (middle ++ tail) ≡ all
-    → Writes a b (head ∷ []) → WritesPart b c middle → WritesPart a c all
-middle_cut a b c head middle tail all is first part = subst (WritesPart a c) is (part_more a b c (head ∷ []) (middle ++ tail) first (part_front b c middle tail part))
-
-pub tail_cut : (a b c d : Option (List ℕ)) (head : Record) (middle tail all : List Record) → head ∷ (middle ++ tail) ≡ all
-    → Writes a b (head ∷ []) → Writes b c middle → WritesPart c d tail → WritesPart a d all
-tail_cut a b c d head middle tail all is first second part = subst (WritesPart a d) is (part_more a c d (head ∷ middle) tail (writes_more a b c (head ∷ []) middle first second) part)
-
-pub all_written : (a b c d : Option (List ℕ)) (head : Record) (middle tail all : List Record) → head ∷ (middle ++ tail) ≡ all
-    → Writes a b (head ∷ []) → Writes b c middle → Writes c d tail → Writes a d all
-all_written a b c d head middle tail all is first second third = subst (Writes a d) is (writes_more a c d (head ∷ middle) tail (writes_more a b c (head ∷ []) middle first second) third)
-
 -- the first record of one that commits something
 abbrev pub head_by : List ℕ → VsyncReport → Record
 head_by timelines report = rec.Vsyn (record { number = report.number; expected = report.expected; timelines = map (value_shown report.seen) timelines })
@@ -125,6 +109,16 @@ zip_push R [] [] x y zip r = (r, tt)
 zip_push R [] (b ∷ ys) x y zip r = absurd zip
 zip_push R (a ∷ xs) [] x y zip r = absurd zip
 zip_push R (a ∷ xs) (b ∷ ys) x y zip r = (zip.0, zip_push R xs ys x y zip.1 r)
+
+-- an output whose image a screen shows now, and one that has none
+pub image_composed : (pictures : ℕ → Picture) (output : Output SourcedView) (of : ImageId) (sourced : SourcedView) (screen : ScreenOf) → output ≡ out.Image (record { of = of; shows = sourced })
+    → screen.view ≡ Some sourced.view → IsWhole sourced.view screen.frame → IsShown pictures screen → IsOutput (IsComposed pictures) output (out.Image (record { of = of; shows = screen }))
+image_composed pictures output of sourced screen is view whole shown =
+    subst (λ (o : Output SourcedView). IsOutput (IsComposed pictures) o (out.Image (record { of = of; shows = screen }))) (sym is)
+    (refl, record { frame = frame_bytes_are pictures sourced.view screen view whole shown; shown = shown })
+
+pub hit_composed : (pictures : ℕ → Picture) (output : Output SourcedView) (number layer : ℕ) → output ≡ out.Hit number layer → IsOutput (IsComposed pictures) output (out.Hit number layer)
+hit_composed pictures output number layer is = subst (λ (o : Output SourcedView). IsOutput (IsComposed pictures) o (out.Hit number layer)) (sym is) (refl, refl)
 
 -- the pixels of images are those of the views that they are of
 composed_is : (pictures : ℕ → Picture) (view : Output SourcedView) (image : Output ScreenOf) → IsOutput (IsComposed pictures) view image
@@ -192,16 +186,6 @@ records_are pictures plan timelines report layers views images due composed =
       shown = shown i;
     }))
 
-pub tail_written : (r : Result (Unit {0}) RunFault) (a b c d : Option (List ℕ)) (head : Record) (middle tail all : List Record) → head ∷ (middle ++ tail) ≡ all
-    → Writes a b (head ∷ []) → Writes b c middle → OnOk r (Writes c d tail) → OnOk r (Writes a d all)
-tail_written (Ok u) a b c d head middle tail all is first second third = all_written a b c d head middle tail all is first second third
-tail_written (Err e) a b c d head middle tail all is first second third = tt
-
-pub tail_part : (r : Result (Unit {0}) RunFault) (a b c d : Option (List ℕ)) (head : Record) (middle tail all : List Record) → head ∷ (middle ++ tail) ≡ all
-    → Writes a b (head ∷ []) → Writes b c middle → OnErr r (WritesPart c d tail) → OnErr r (WritesPart a d all)
-tail_part (Ok u) a b c d head middle tail all is first second third = tt
-tail_part (Err e) a b c d head middle tail all is first second third = tail_cut a b c d head middle tail all is first second third
-
 -- a vsync of which the images are composed was written, for its report
 pub vsync_written : (r : Result (Unit {0}) RunFault) (a b : Option (List ℕ)) (pictures : ℕ → Picture) (plan : Plan) (timelines : List ℕ) (report : VsyncReport) (layers : List Layer) (views : List (Output SourcedView)) (images : List (Output ScreenOf)) (screens shown : List OutputScreen) → AreViewsDue plan layers report.commits views → AreComposed pictures views images
     → OnOk r (Writes a b (records_by timelines report (pixels_in images)))
@@ -220,12 +204,23 @@ vsync_cut (Err e) a b pictures plan timelines report layers views images due com
     subst (WritesPart a b) (records_are pictures plan timelines report layers views images due composed) part
 
 -- one more output
-pub outputs_push : {A B : Type 0} (xs : List (Output A)) (ys : List (Output B)) (x : Output A) (y : Output B) → AreSameOutputs xs ys → without_image x ≡ without_image y
+outputs_push : {A B : Type 0} (xs : List (Output A)) (ys : List (Output B)) (x : Output A) (y : Output B) → AreSameOutputs xs ys → without_image x ≡ without_image y
     → AreSameOutputs (xs ++ x ∷ []) (ys ++ y ∷ [])
 outputs_push xs ys x y same one =
     map-append without_image xs (x ∷ [])
     ∙ (λ i. same i ++ one i ∷ [])
     ∙ sym (map-append without_image ys (y ∷ []))
+
+-- one more view and its image
+module _ (views : List (Output SourcedView)) (images pushed : List (Output ScreenOf)) (view : Output SourcedView) (image : Output ScreenOf) (is : pushed ≡ images ++ image ∷ []) where
+  pub outputs_more : AreSameOutputs views images → without_image view ≡ without_image image → AreSameOutputs (views ++ view ∷ []) pushed
+  outputs_more same one = outputs_push views images view image same one ∙ ap (map without_image) (sym is)
+
+  pub showed_more : All (OfImage HasView) images → OfImage HasView image → All (OfImage HasView) pushed
+  showed_more showed one = subst (All (OfImage HasView)) (sym is) (All-push (OfImage HasView) images image showed one)
+
+  pub composed_more : (pictures : ℕ → Picture) → AreComposed pictures views images → IsOutput (IsComposed pictures) view image → AreComposed pictures (views ++ view ∷ []) pushed
+  composed_more pictures composed one = subst (AreComposed pictures (views ++ view ∷ [])) (sym is) (zip_push (IsOutput (IsComposed pictures)) views images view image composed one)
 
 -- other images of the same output
 other_image : {A B : Type 0} (f : A → B) (output : Output A) → without_image (map_output f output) ≡ without_image output

@@ -1,11 +1,10 @@
 //! What ends the records of a run, behind its last vsync: what arrived, the history of each queue,
 //! what is held, who is stuck, and that nothing more comes. Plays and live runs write it alike.
-ghost use Rattle.std.specs.Prelude.{◌≡◌, ◌≤◌, ◌∷◌, ◌++◌, [], All, IfOk, IsErrOf, OnErr, OnOk, length, map, option_to_list};
-ghost use Rattle.sf_io.specs.Causes.{Rose};
+ghost use Rattle.std.specs.Prelude.{◌≡◌, ◌≤◌, ◌∷◌, ◌++◌, [], All, IfOk, OnOk, length, map, option_to_list};
 ghost use Rattle.sf_play.specs.sf_record.declared.record.Record.TheVariants as rec;
 ghost use Rattle.sf_play.specs.law_played.Progress.{held_shown};
 ghost use Rattle.sf_play_write.specs.Closings.{closing_of, history_of, stuck_at, stuck_entry};
-ghost use Rattle.sf_play_write.specs.Writing.{Writes, WritesPart};
+ghost use Rattle.sf_play_write.specs.Writing.{Wrote};
 ghost use Rattle.sf_play.specs.sf_actor_steps.declared.actor.Actor.{Actor as ActorIn};
 
 use crate::writing::write_made;
@@ -63,10 +62,7 @@ fn write_histories<K: Sink, B: TableName>(
     sink: &mut K,
     queues: &[QueueObject<B>],
 ) -> Result<(), RunFault>
-    ensures ok { OnOk result (Writes (K.taken sink.old) (K.taken sink.new) (map rec.Hist (map history_of queues.now))) }
-    ensures err { OnErr result (WritesPart (K.taken sink.old) (K.taken sink.new) (map rec.Hist (map history_of queues.now))) }
-    ensures later { K.faults sink.old ≤ K.faults sink.new }
-    ensures failed { IsErrOf result RunFault.WriteFault → Rose (K.faults sink.old) (K.faults sink.new) }
+    ensures { Wrote K.taken K.faults sink.old sink.new result (map rec.Hist (map history_of queues.now)) }
 {
     for queue in queues {
         let made = history_record(alloc, queue);
@@ -86,10 +82,7 @@ fn write_rest<K: Sink, B: TableName>(
     actors: &[Actor<B>],
 ) -> Result<(), RunFault>
     requires { All (λ (actor : ActorIn B). length actor.script.steps ≤ 4294967295) actors.now }
-    ensures ok { OnOk result (Writes (K.taken sink.old) (K.taken sink.new) (rec.Hold (map held_shown held.now) ∷ rec.Stuk (stuck_at actors.now) ∷ rec.Done ∷ [])) }
-    ensures err { OnErr result (WritesPart (K.taken sink.old) (K.taken sink.new) (rec.Hold (map held_shown held.now) ∷ rec.Stuk (stuck_at actors.now) ∷ rec.Done ∷ [])) }
-    ensures later { K.faults sink.old ≤ K.faults sink.new }
-    ensures failed { IsErrOf result RunFault.WriteFault → Rose (K.faults sink.old) (K.faults sink.new) }
+    ensures { Wrote K.taken K.faults sink.old sink.new result (rec.Hold (map held_shown held.now) ∷ rec.Stuk (stuck_at actors.now) ∷ rec.Done ∷ []) }
 {
     match write_made(alloc, sink, held_record(alloc, held)) {
         Ok(()) => {}
@@ -110,10 +103,7 @@ pub fn write_closing<K: Sink, B: TableName>(
     player: &Player<B>,
 ) -> Result<(), RunFault>
     requires { All (λ (actor : ActorIn B). length actor.script.steps ≤ 4294967295) player.now.play.actor_set.actors }
-    ensures ok { OnOk result (Writes (K.taken sink.old) (K.taken sink.new) (closing_of player.now)) }
-    ensures err { OnErr result (WritesPart (K.taken sink.old) (K.taken sink.new) (closing_of player.now)) }
-    ensures later { K.faults sink.old ≤ K.faults sink.new }
-    ensures failed { IsErrOf result RunFault.WriteFault → Rose (K.faults sink.old) (K.faults sink.new) }
+    ensures { Wrote K.taken K.faults sink.old sink.new result (closing_of player.now) }
 {
     let actor_set = player.actor_set();
     let desk = actor_set.desk();

@@ -1,12 +1,8 @@
 //! From the views of a vsync to its images: each is composed on the screen of its own output. A
 //! live run composes beside the next vsync, in a thread of its own where that is worth its start.
 ghost use denote.Param.Send.{IsSync};
-ghost use Rattle.std.specs.Prelude.{◌≡◌, ℕ, IfOk, IfSome, is_some, map, true};
-ghost use Rattle.sf_output.specs.Outputs.{IsOutput, OfImage};
-ghost use Rattle.sf_output_screen.specs.sf_picture.declared.picture.Picture.{Picture};
-ghost use Rattle.sf_play.specs.sf_play_report.Stages.{FindsPictures, IsReadableView};
-ghost use Rattle.sf_output_screen.specs.ScreenLists.{AreShown};
-ghost use Rattle.sf_play_write.specs.Vsyncs.{AreImagesOf, AreReadableViews, HasView, IsComposed, KeepsShown, without_image};
+ghost use Rattle.std.specs.Prelude.{◌≡◌, IfOk, IfSome, is_some, map, true};
+ghost use Rattle.sf_play_write.specs.Vsyncs.{AreImagesOf, AreReadableViews, KeepsShown};
 
 use sf_base::NoMemory;
 use sf_output::{Image, ImageId, Output};
@@ -19,49 +15,6 @@ use std::thread::Threads;
 /// thread is a small part. All that the thread saves is what the caller does beside it, and that
 /// mostly takes less than a thread takes to begin.
 const WORTH_A_THREAD: u64 = 4_194_304;
-
-/// Shows a view on the screen of this image, which is taken out.
-fn compose_on<R: Threads + Sync, C: Pixels + Sync>(
-    engine: &Engine<R>,
-    screens: &mut Screens,
-    contents: &[C],
-    of: ImageId,
-    sourced: SourcedView,
-) -> Result<Screen, NoMemory>
-    requires readable { IsReadableView (map C.picture contents.now) sourced }
-    ensures view { IfOk result HasView }
-    ensures image { (pictures : ℕ → Picture) → FindsPictures pictures (map C.picture contents.now) sourced → AreShown pictures screens.old
-        → IfOk result (IsComposed pictures sourced) }
-    ensures shown { KeepsShown screens.old screens.new }
-{
-    let SourcedView { view, sources } = sourced;
-    let mut screen = screens.take(of);
-    screen.show(engine, view, contents, sources.as_slice())?;
-    Ok(screen)
-}
-
-/// Composes the image of one of the things that a vsync shows, if it has one.
-fn compose_output<R: Threads + Sync, C: Pixels + Sync>(
-    engine: &Engine<R>,
-    screens: &mut Screens,
-    contents: &[C],
-    output: Output<SourcedView>,
-) -> Result<Output<Screen>, NoMemory>
-    requires readable { OfImage (IsReadableView (map C.picture contents.now)) output }
-    ensures output { IfOk result (λ image. without_image output ≡ without_image image) }
-    ensures view { IfOk result (OfImage HasView) }
-    ensures image { (pictures : ℕ → Picture) → OfImage (FindsPictures pictures (map C.picture contents.now)) output → AreShown pictures screens.old
-        → IfOk result (IsOutput (IsComposed pictures) output) }
-    ensures shown { KeepsShown screens.old screens.new }
-{
-    match output {
-        Output::Image(Image { of, shows }) => {
-            let screen = compose_on(engine, screens, contents, of, shows)?;
-            Ok(Output::Image(Image { of, shows: screen }))
-        }
-        Output::Hit(number, layer) => Ok(Output::Hit(number, layer)),
-    }
-}
 
 /// Composes the images of views, one after another, each on the screen of its output, which is taken
 /// out.
@@ -77,8 +30,15 @@ pub fn compose_views<R: Threads + Sync, C: Pixels + Sync>(
 {
     let mut images = Vec::new(engine.alloc);
     for output in views {
-        let image = compose_output(engine, screens, contents, output)?;
-        images.push(image)?;
+        match output {
+            Output::Image(Image { of, shows }) => {
+                let SourcedView { view, sources } = shows;
+                let mut screen = screens.take(of);
+                screen.show(engine, view, contents, sources.as_slice())?;
+                images.push(Output::Image(Image { of, shows: screen }))?;
+            }
+            Output::Hit(number, layer) => images.push(Output::Hit(number, layer))?,
+        }
     }
     Ok(images)
 }

@@ -14,8 +14,8 @@ pub use play::{opening, show_play};
 pub use sf_output::{Image, ImageId, Output};
 pub use sf_output_screen::{Engine, Screen, Screens, Workers};
 pub use sf_play::{
-    Action, ActorSet, Player, RunFault, SourcedView, VsyncReport, is_time, permits_for,
-    reply_record,
+    Action, ActorSet, CompositorDesk, Player, RunFault, SourcedView, VsyncOutcome, VsyncReport,
+    is_time, permits_for, reply_record, vsync_over,
 };
 pub use shows::Shows;
 pub use vsync::{show_vsync, vsync_views, write_vsync};

@@ -1,17 +1,15 @@
 //! A whole play: the record that it begins with, one action of the player after another with the
 //! records of what it did, and the records that end it. It is what `sf_app` calls for a scene that
 //! is played on one thread.
-ghost use Rattle.std.specs.Prelude.{◌≡◌, ◌<◌, ◌≤◌, [], ℕ, All, IfOk, IsErrOf, List, OnErr, OnOk, Option, true};
+ghost use Rattle.std.specs.Prelude.{◌≡◌, ◌≤◌, [], All, IsErrOf, true};
 ghost use Rattle.sf_play.specs.sf_actor_set.Scripts.{permits_of};
 ghost use Rattle.sf_io.specs.Causes.{Rose};
-ghost use Rattle.sf_play.specs.Going.{fuel_of};
 ghost use Rattle.sf_play.specs.law_played.Frames.{plan_of};
 ghost use Rattle.sf_play.specs.law_played.Played.{opening};
 ghost use Rattle.sf_play.specs.sf_script_scene.Scene.{SceneValue};
-ghost use Rattle.sf_play_write.specs.Runs.{CutRun, WroteRun};
-ghost use Rattle.sf_play_write.specs.Showing.{written_at};
-ghost use Rattle.sf_play_write.specs.inner.Rows.{CutsAction, CutsNext, IsReady, IsWriting, MayShowAction, WritesAction, WritesAll, WritesNext, newest_shown};
-ghost use Rattle.sf_play_write.specs.Writing.{Writes, WritesPart};
+ghost use Rattle.sf_play_write.specs.Runs.{PlayEnded};
+ghost use Rattle.sf_play_write.specs.inner.Rows.{CutsAction, IsReady, MayShowAction, WritesAction, newest_shown};
+ghost use Rattle.sf_play_write.specs.Writing.{Wrote};
 ghost use Rattle.sf_play.specs.sf_turns.Counts.{range};
 
 use crate::closing::write_closing;
@@ -41,10 +39,7 @@ pub fn opening(scene: &Scene) -> Record
 
 /// Writes the record of the newest of these replies, if there is one.
 fn write_newest<K: Sink>(alloc: Global, sink: &mut K, replies: &[Reply]) -> Result<(), RunFault>
-    ensures ok { OnOk result (Writes (K.taken sink.old) (K.taken sink.new) (newest_shown replies.now)) }
-    ensures err { OnErr result (WritesPart (K.taken sink.old) (K.taken sink.new) (newest_shown replies.now)) }
-    ensures later { K.faults sink.old ≤ K.faults sink.new }
-    ensures failed { IsErrOf result RunFault.WriteFault → Rose (K.faults sink.old) (K.faults sink.new) }
+    ensures { Wrote K.taken K.faults sink.old sink.new result (newest_shown replies.now) }
 {
     match replies {
         [.., newest] => write_made(alloc, sink, reply_record(alloc, newest)),
@@ -87,56 +82,8 @@ fn write_action<R: Threads + Sync, K: Sink, B: TableName>(
     }
 }
 
-/// Does the next action of a play and writes what it shows; whether it was not the end.
-fn show_action<R: Threads + Sync, K: Sink, B: TableName>(
-    engine: &Engine<R>,
-    sink: &mut K,
-    shows: &Shows,
-    screens: &mut Screens,
-    player: &mut Player<B>,
-) -> Result<bool, RunFault>
-    requires writing { (scene : SceneValue) × (start : Option (List ℕ)) × IsWriting B.table scene shows.now start (written_at (K.taken sink.old) screens.old player.old) }
-    ensures on { WritesNext B.table shows.now (written_at (K.taken sink.old) screens.old player.old) (written_at (K.taken sink.new) screens.new player.new) result }
-    ensures err { CutsNext B.table shows.now (written_at (K.taken sink.old) screens.old player.old) (K.taken sink.new) result }
-    ensures less { IfOk result (λ goes_on. goes_on ≡ true → fuel_of player.new < fuel_of player.old) }
-    ensures later { K.faults sink.old ≤ K.faults sink.new }
-    ensures failed { IsErrOf result RunFault.WriteFault → Rose (K.faults sink.old) (K.faults sink.new) }
-{
-    let action = match player.next() {
-        Ok(action) => action,
-        Err(_) => return Err(RunFault::NoMemory),
-    };
-    let goes_on = !action.is_end();
-    match write_action(engine, sink, shows, screens, player, action) {
-        Ok(()) => Ok(goes_on),
-        Err(fault) => Err(fault),
-    }
-}
-
-/// Does the actions of a play up to its end, and writes what they show.
-fn show_actions<R: Threads + Sync, K: Sink, B: TableName>(
-    engine: &Engine<R>,
-    sink: &mut K,
-    shows: &Shows,
-    player: &mut Player<B>,
-) -> Result<(), RunFault>
-    requires writing { (scene : SceneValue) × (start : Option (List ℕ)) × IsWriting B.table scene shows.now start (written_at (K.taken sink.old) [] player.old) }
-    ensures ok { WritesAll B.table shows.now (written_at (K.taken sink.old) [] player.old) (K.taken sink.new) player.new result }
-    ensures err { CutsNext B.table shows.now (written_at (K.taken sink.old) [] player.old) (K.taken sink.new) result }
-    ensures later { K.faults sink.old ≤ K.faults sink.new }
-    ensures failed { IsErrOf result RunFault.WriteFault → Rose (K.faults sink.old) (K.faults sink.new) }
-{
-    let mut screens = Screens::new(engine.alloc);
-    'actions: loop {
-        match show_action(engine, sink, shows, &mut screens, player) {
-            Ok(true) => {}
-            Ok(false) => return Ok(()),
-            Err(fault) => return Err(fault),
-        }
-    }
-}
-
-/// Writes the record that a play begins with, does its actions, and writes its closing records.
+/// Writes the record that a play begins with, does its actions up to its end, each with the records of
+/// what it shows, and writes its closing records.
 fn write_play<R: Threads + Sync, K: Sink, B: TableName>(
     engine: &Engine<R>,
     sink: &mut K,
@@ -145,20 +92,28 @@ fn write_play<R: Threads + Sync, K: Sink, B: TableName>(
     player: &mut Player<B>,
 ) -> Result<(), RunFault>
     requires ready { (scene : SceneValue) × IsReady B.table scene shows.now first player.old }
-    ensures ok { (scene : SceneValue) → IsReady B.table scene shows.now first player.old → OnOk result (WroteRun scene (K.taken sink.old) (K.taken sink.new)) }
-    ensures err { (scene : SceneValue) → IsReady B.table scene shows.now first player.old → OnErr result (CutRun scene (K.taken sink.old) (K.taken sink.new)) }
-    ensures later { K.faults sink.old ≤ K.faults sink.new }
-    ensures failed { IsErrOf result RunFault.WriteFault → Rose (K.faults sink.old) (K.faults sink.new) }
+    ensures { (scene : SceneValue) → IsReady B.table scene shows.now first player.old
+        → PlayEnded scene result (K.taken sink.old) (K.taken sink.new) (K.faults sink.old) (K.faults sink.new) }
 {
     match write_made(engine.alloc, sink, Ok(first)) {
         Ok(()) => {}
         Err(fault) => return Err(fault),
     }
-    match show_actions(engine, sink, shows, player) {
-        Ok(()) => {}
-        Err(fault) => return Err(fault),
+    let mut screens = Screens::new(engine.alloc);
+    'actions: loop {
+        let action = match player.next() {
+            Ok(action) => action,
+            Err(_) => return Err(RunFault::NoMemory),
+        };
+        let is_last = action.is_end();
+        match write_action(engine, sink, shows, &mut screens, player, action) {
+            Ok(()) => {}
+            Err(fault) => return Err(fault),
+        }
+        if is_last {
+            return write_closing(engine.alloc, sink, player);
+        }
     }
-    write_closing(engine.alloc, sink, player)
 }
 
 /// Plays a scene over buffers of the table that B names, and writes the records of its play. The
@@ -177,10 +132,7 @@ pub fn show_play<R: Threads + Sync, K: Sink, B: TableName>(
     requires fresh { seat.leaves ≡ [] }
     requires whole { stock.buffers ≡ range 0 (permits_of scene.actors) }
     requires sized { permits_of scene.actors ≤ B.table.slots }
-    ensures ok { OnOk result (WroteRun scene (K.taken sink.old) (K.taken sink.new)) }
-    ensures err { OnErr result (CutRun scene (K.taken sink.old) (K.taken sink.new)) }
-    ensures later { K.faults sink.old ≤ K.faults sink.new }
-    ensures failed { IsErrOf result RunFault.WriteFault → Rose (K.faults sink.old) (K.faults sink.new) }
+    ensures { PlayEnded scene result (K.taken sink.old) (K.taken sink.new) (K.faults sink.old) (K.faults sink.new) }
 {
     let shows = match Shows::of_scene(engine.alloc, &scene) {
         Ok(shows) => shows,

@@ -26,7 +26,7 @@ ghost use Rattle.sf_play_write.specs.Vsyncs.{
   records_by,
   shown_record,
 };
-ghost use Rattle.sf_play_write.specs.Writing.{Writes, WritesPart};
+ghost use Rattle.sf_play_write.specs.Writing.{Wrote};
 
 use crate::composing::compose_views;
 use crate::shows::Shows;
@@ -44,10 +44,7 @@ use std::thread::Threads;
 
 /// Writes the records of commits, one after another.
 fn write_commits<K: Sink>(alloc: Global, sink: &mut K, commits: &[Commit]) -> Result<(), RunFault>
-    ensures ok { OnOk result (Writes (K.taken sink.old) (K.taken sink.new) (map rec.Comm (map commit_shown commits.now))) }
-    ensures err { OnErr result (WritesPart (K.taken sink.old) (K.taken sink.new) (map rec.Comm (map commit_shown commits.now))) }
-    ensures later { K.faults sink.old ≤ K.faults sink.new }
-    ensures failed { IsErrOf result RunFault.WriteFault → Rose (K.faults sink.old) (K.faults sink.new) }
+    ensures { Wrote K.taken K.faults sink.old sink.new result (map rec.Comm (map commit_shown commits.now)) }
 {
     for commit in commits {
         let made = commit_record(alloc, commit);
@@ -88,12 +85,9 @@ fn write_shown<K: Sink>(
     number: u32,
 ) -> Result<(), RunFault>
     requires shows { is_some screen.old.view ≡ true }
-    ensures ok { OnOk result (Writes (K.taken sink.old) (K.taken sink.new) (image_record of number screen.old.frame ∷ [])) }
-    ensures err { OnErr result (WritesPart (K.taken sink.old) (K.taken sink.new) (image_record of number screen.old.frame ∷ [])) }
+    ensures wrote { Wrote K.taken K.faults sink.old sink.new result (image_record of number screen.old.frame ∷ []) }
     ensures view { screen.new.view ≡ screen.old.view }
     ensures frame { screen.new.frame ≡ screen.old.frame }
-    ensures later { K.faults sink.old ≤ K.faults sink.new }
-    ensures failed { IsErrOf result RunFault.WriteFault → Rose (K.faults sink.old) (K.faults sink.new) }
 {
     screen.number(of, number);
     write_image(sink, of, number, screen.body(of))
@@ -108,11 +102,8 @@ fn write_on<K: Sink>(
     image: Image<Screen>,
 ) -> Result<(), RunFault>
     requires shows { HasView image.shows }
-    ensures ok { OnOk result (Writes (K.taken sink.old) (K.taken sink.new) (image_record image.of number image.shows.frame ∷ [])) }
-    ensures err { OnErr result (WritesPart (K.taken sink.old) (K.taken sink.new) (image_record image.of number image.shows.frame ∷ [])) }
+    ensures wrote { Wrote K.taken K.faults sink.old sink.new result (image_record image.of number image.shows.frame ∷ []) }
     ensures shown { (pictures : ℕ → Picture) → IsShown pictures image.shows → AreShown pictures screens.old → OnOk result (AreShown pictures screens.new) }
-    ensures later { K.faults sink.old ≤ K.faults sink.new }
-    ensures failed { IsErrOf result RunFault.WriteFault → Rose (K.faults sink.old) (K.faults sink.new) }
 {
     let Image {
         of,
@@ -137,11 +128,8 @@ fn write_output<K: Sink>(
     image: Output<Screen>,
 ) -> Result<(), RunFault>
     requires shows { OfImage HasView image }
-    ensures ok { OnOk result (Writes (K.taken sink.old) (K.taken sink.new) (shown_record number image ∷ [])) }
-    ensures err { OnErr result (WritesPart (K.taken sink.old) (K.taken sink.new) (shown_record number image ∷ [])) }
+    ensures wrote { Wrote K.taken K.faults sink.old sink.new result (shown_record number image ∷ []) }
     ensures shown { (pictures : ℕ → Picture) → OfImage (IsShown pictures) image → AreShown pictures screens.old → OnOk result (AreShown pictures screens.new) }
-    ensures later { K.faults sink.old ≤ K.faults sink.new }
-    ensures failed { IsErrOf result RunFault.WriteFault → Rose (K.faults sink.old) (K.faults sink.new) }
 {
     match image {
         Output::Image(image) => write_on(sink, screens, number, image),
@@ -165,12 +153,9 @@ fn write_outputs<K: Sink>(
     images: Vec<Output<Screen>>,
 ) -> Result<(), RunFault>
     requires shows { All (OfImage HasView) images.items }
-    ensures ok { OnOk result (Writes (K.taken sink.old) (K.taken sink.new) (map (shown_record number) images.items)) }
-    ensures err { OnErr result (WritesPart (K.taken sink.old) (K.taken sink.new) (map (shown_record number) images.items)) }
+    ensures wrote { Wrote K.taken K.faults sink.old sink.new result (map (shown_record number) images.items) }
     ensures shown { (pictures : ℕ → Picture) → All (OfImage (IsShown pictures)) images.items → AreShown pictures screens.old
         → OnOk result (AreShown pictures screens.new) }
-    ensures later { K.faults sink.old ≤ K.faults sink.new }
-    ensures failed { IsErrOf result RunFault.WriteFault → Rose (K.faults sink.old) (K.faults sink.new) }
 {
     for image in images {
         match write_output(alloc, sink, screens, number, image) {
@@ -215,12 +200,9 @@ pub fn write_vsync<K: Sink>(
 ) -> Result<(), RunFault>
     requires timelines { All (λ timeline. (1 ≤ timeline) × (timeline ≤ 64)) timelines.now }
     requires shows { All (OfImage HasView) images.items }
-    ensures ok { OnOk result (Writes (K.taken sink.old) (K.taken sink.new) (records_by timelines.now report (pixels_in images.items))) }
-    ensures err { OnErr result (WritesPart (K.taken sink.old) (K.taken sink.new) (records_by timelines.now report (pixels_in images.items))) }
+    ensures wrote { Wrote K.taken K.faults sink.old sink.new result (records_by timelines.now report (pixels_in images.items)) }
     ensures shown { (pictures : ℕ → Picture) → All (OfImage (IsShown pictures)) images.items → AreShown pictures screens.old
         → OnOk result (AreShown pictures screens.new) }
-    ensures later { K.faults sink.old ≤ K.faults sink.new }
-    ensures failed { IsErrOf result RunFault.WriteFault → Rose (K.faults sink.old) (K.faults sink.new) }
 {
     let VsyncReport {
         number,

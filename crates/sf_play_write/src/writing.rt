@@ -1,8 +1,8 @@
 //! Writes a record that had to be made first, for whatever here makes records in memory.
-ghost use Rattle.std.specs.Prelude.{◌≡◌, ◌≤◌, ◌∷◌, [], IfOk, IsErrOf, OnErr, OnOk};
+ghost use Rattle.std.specs.Prelude.{◌≡◌, ◌≤◌, ◌∷◌, [], IfOk, IsErrOf};
 ghost use Rattle.sf_io.specs.Causes.{Rose};
 ghost use Rattle.sf_play.specs.sf_record.declared.record.Record.{Record as RecordValue};
-ghost use Rattle.sf_play_write.specs.Writing.{Writes, WritesPart};
+ghost use Rattle.sf_play_write.specs.Writing.{Wrote};
 
 use sf_base::NoMemory;
 use sf_io::Sink;
@@ -15,8 +15,7 @@ pub fn write_made<K: Sink>(
     sink: &mut K,
     made: Result<Record, NoMemory>,
 ) -> Result<(), RunFault>
-    ensures ok { (shown : RecordValue) → IfOk made (λ it. it ≡ shown) → OnOk result (Writes (K.taken sink.old) (K.taken sink.new) (shown ∷ [])) }
-    ensures err { (shown : RecordValue) → IfOk made (λ it. it ≡ shown) → OnErr result (WritesPart (K.taken sink.old) (K.taken sink.new) (shown ∷ [])) }
+    ensures wrote { (shown : RecordValue) → IfOk made (λ it. it ≡ shown) → Wrote K.taken K.faults sink.old sink.new result (shown ∷ []) }
     ensures later { K.faults sink.old ≤ K.faults sink.new }
     ensures failed { IsErrOf result RunFault.WriteFault → Rose (K.faults sink.old) (K.faults sink.new) }
 {

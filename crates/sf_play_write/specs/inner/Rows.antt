@@ -1,5 +1,5 @@
 -- What is written of the actions of a play.
-use Rattle.std.specs.Prelude.{◌≡◌, ℕ, ◌<◌, Bool, true, false, List, [], ◌∷◌, length, Option, None, Some, slice_get, Result, IfOk, OnErr, OnOk}
+use Rattle.std.specs.Prelude.{◌≡◌, ℕ, ◌<◌, List, [], ◌∷◌, length, Option, None, Some, slice_get, Result, OnErr, OnOk}
 use Rattle.atomic_table.specs.Seated.{TableId}
 use Rattle.sf_output_screen.specs.sf_picture.declared.picture.Picture.{Picture}
 use Rattle.sf_play.specs.sf_script_scene.Scene.{SceneValue}
@@ -20,7 +20,6 @@ use Rattle.sf_play.specs.Standing.{Begins, StandsAlong}
 use Rattle.sf_play.specs.declared.action.Action.{Action}
 use Rattle.sf_play.specs.declared.action.Action.TheVariants as action
 use Rattle.sf_play_write.specs.declared.shows.Shows.{Shows}
-use Rattle.sf_play_write.specs.Runs.{CutRun}
 use Rattle.sf_play_write.specs.Showing.{IsOfScene, Written}
 use Rattle.sf_play_write.specs.Vsyncs.{vsync_shown}
 use Rattle.sf_play_write.specs.Writing.{Writes, WritesPart}
@@ -82,24 +81,3 @@ module _ {B : Type 0} where
     pub begins : Begins table scene player
     pub asked : IsOfScene scene shows
     pub opens : first ≡ opening scene
-
-  -- an action was written: there are more to come, or the play is at its end
-  abbrev pub GoesOnWriting : Bool → TableId → SceneValue → Shows → Option (List ℕ) → Written B → Type 0
-  GoesOnWriting true table scene shows start now = IsWriting table scene shows start now
-  GoesOnWriting false table scene shows start now = HasWritten table scene start now.taken now.player
-
-  -- the next action of a play that is written was written, too
-  abbrev pub WritesNext : TableId → Shows → Written B → Written B → Result Bool RunFault → Type 0
-  WritesNext table shows before after result =
-      (scene : SceneValue) (start : Option (List ℕ)) → IsWriting table scene shows start before
-      → IfOk result (λ goes_on. GoesOnWriting goes_on table scene shows start after)
-
-  -- after a fault, a prefix of the records of the play was
-  abbrev pub CutsNext : {A : Type 0} → TableId → Shows → Written B → Option (List ℕ) → Result A RunFault → Type 0
-  CutsNext table shows before now result =
-      (scene : SceneValue) (start : Option (List ℕ)) → IsWriting table scene shows start before → OnErr result (CutRun scene start now)
-
-  -- all actions of a play that is written were written
-  abbrev pub WritesAll : {A : Type 0} → TableId → Shows → Written B → Option (List ℕ) → PlayerOf B → Result A RunFault → Type 0
-  WritesAll table shows before now player result =
-      (scene : SceneValue) (start : Option (List ℕ)) → IsWriting table scene shows start before → OnOk result (HasWritten table scene start now player)

@@ -49,6 +49,12 @@ returns-in-Step-clause-err g c = λ scene may shown.
     ∙ ap (action_shown (picture_at scene.pictures) c.args.shows.now c.args.player.now.play) (sym c.in-Step.is) in
     subst (λ (rs : List Record). OnErr c.write_newest.result (WritesPart (g.K.Sink.taken c.args.sink.now) (g.K.Sink.taken c.write_newest.new.sink) rs)) newest c.write_newest.ensures.err
 
+pub returns-in-Step-clause-later : goal.returns-in-Step-clause-later
+returns-in-Step-clause-later g c = c.write_newest.ensures.later
+
+pub returns-in-Step-clause-failed : goal.returns-in-Step-clause-failed
+returns-in-Step-clause-failed g c = c.write_newest.ensures.failed
+
 pub returns-in-Idle-clause-ok : goal.returns-in-Idle-clause-ok
 returns-in-Idle-clause-ok g c = λ scene may shown. (
   subst (λ (t : Action). Writes (g.K.Sink.taken c.args.sink.now) (g.K.Sink.taken c.args.sink.now) (action_shown (picture_at scene.pictures) c.args.shows.now c.args.player.now.play t))

@@ -35,7 +35,7 @@ returns-in-Ok-compose_views-clause-ok g c = λ pictures expected was.
     subst (λ (timelines : List ℕ). OnOk c.write_vsync.result (Writes (g.K.Sink.taken c.args.sink.now) (g.K.Sink.taken c.write_vsync.new.sink) (vsync_shown pictures c.args.shows.now.plan timelines c.args.report c.args.handler.now.tree.layers)
     × AreShown pictures c.write_vsync.new.screens)) c.deref.ensures.value
     (vsync_written c.write_vsync.result _ _ pictures c.args.shows.now.plan c.deref.result.now c.args.report c.args.handler.now.tree.layers c.in-Ok.views.items c.in-Ok-compose_views.images.items
-    c.compose_views.new.screens c.write_vsync.new.screens c.in-Ok.ensures.due (c.in-Ok-compose_views.ensures.images.composed pictures finds was) c.write_vsync.ensures.ok
+    c.compose_views.new.screens c.write_vsync.new.screens c.in-Ok.ensures.due (c.in-Ok-compose_views.ensures.images.composed pictures finds was) c.write_vsync.ensures.wrote.ok
     (c.write_vsync.ensures.shown pictures) (c.compose_views.ensures.shown pictures was))
 
 pub returns-in-Ok-compose_views-clause-err : goal.returns-in-Ok-compose_views-clause-err
@@ -45,18 +45,24 @@ returns-in-Ok-compose_views-clause-err g c = λ pictures expected was.
     subst (λ (timelines : List ℕ). OnErr c.write_vsync.result (WritesPart (g.K.Sink.taken c.args.sink.now) (g.K.Sink.taken c.write_vsync.new.sink) (vsync_shown pictures c.args.shows.now.plan timelines c.args.report c.args.handler.now.tree.layers)))
     c.deref.ensures.value
     (vsync_cut c.write_vsync.result _ _ pictures c.args.shows.now.plan c.deref.result.now c.args.report c.args.handler.now.tree.layers c.in-Ok.views.items c.in-Ok-compose_views.images.items
-    c.in-Ok.ensures.due (c.in-Ok-compose_views.ensures.images.composed pictures finds was) c.write_vsync.ensures.err)
+    c.in-Ok.ensures.due (c.in-Ok-compose_views.ensures.images.composed pictures finds was) c.write_vsync.ensures.wrote.err)
 
 pub returns-in-Ok-compose_views-clause-some : goal.returns-in-Ok-compose_views-clause-some
 returns-in-Ok-compose_views-clause-some g c =
     subst (λ (timelines : List ℕ). OnOk c.write_vsync.result (WritesVsync c.args.shows.now.plan timelines c.args.handler.now.tree.layers c.args.report (g.K.Sink.taken c.args.sink.now) (g.K.Sink.taken c.write_vsync.new.sink)))
     c.deref.ensures.value
     (told_if c.write_vsync.result (vsync_told c.args.shows.now.plan c.deref.result.now c.args.handler.now.tree.layers c.args.report _ _ c.in-Ok.views.items c.in-Ok-compose_views.images.items
-    c.in-Ok.ensures.due c.in-Ok-compose_views.ensures.images.outputs) c.write_vsync.ensures.ok)
+    c.in-Ok.ensures.due c.in-Ok-compose_views.ensures.images.outputs) c.write_vsync.ensures.wrote.ok)
 
 pub returns-in-Ok-compose_views-clause-cut : goal.returns-in-Ok-compose_views-clause-cut
 returns-in-Ok-compose_views-clause-cut g c =
     subst (λ (timelines : List ℕ). OnErr c.write_vsync.result (CutsVsync c.args.shows.now.plan timelines c.args.handler.now.tree.layers c.args.report (g.K.Sink.taken c.args.sink.now) (g.K.Sink.taken c.write_vsync.new.sink)))
     c.deref.ensures.value
     (begun_if c.write_vsync.result (vsync_begun c.args.shows.now.plan c.deref.result.now c.args.handler.now.tree.layers c.args.report _ _ c.in-Ok.views.items c.in-Ok-compose_views.images.items
-    c.in-Ok.ensures.due c.in-Ok-compose_views.ensures.images.outputs) c.write_vsync.ensures.err)
+    c.in-Ok.ensures.due c.in-Ok-compose_views.ensures.images.outputs) c.write_vsync.ensures.wrote.err)
+
+pub returns-in-Ok-compose_views-clause-later : goal.returns-in-Ok-compose_views-clause-later
+returns-in-Ok-compose_views-clause-later g c = c.write_vsync.ensures.wrote.later
+
+pub returns-in-Ok-compose_views-clause-failed : goal.returns-in-Ok-compose_views-clause-failed
+returns-in-Ok-compose_views-clause-failed g c = c.write_vsync.ensures.wrote.failed

@@ -13,5 +13,5 @@ returns-in-Ok-put-clause-shown g c = λ pictures is was.
     (All-push (λ (one : OutputScreen). IsShown pictures one.screen) c.args.screens.now _ was
     (still_shown pictures c.args.image.shows c.write_shown.new.screen c.write_shown.ensures.view c.write_shown.ensures.frame is))
 
-pub returns-in-Err-put-clause-err : goal.returns-in-Err-put-clause-err
-returns-in-Err-put-clause-err g c = part_whole _ _ _ c.in-Ok.ensures.ok
+pub returns-in-Err-put-clause-wrote : goal.returns-in-Err-put-clause-wrote
+returns-in-Err-put-clause-wrote g c = record { ok = tt; err = part_whole _ _ _ c.in-Ok.ensures.wrote.ok; later = c.in-Ok.ensures.wrote.later; failed = λ fails. absurd (cc fails) }
