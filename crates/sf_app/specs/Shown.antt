@@ -1,15 +1,16 @@
 -- What is written of a scene's run: its records, or of a play the one record that sums them up.
-use Rattle.std.specs.Prelude.{ℕ, Bool, true, false, List, [], ◌∷◌, Option}
+use Rattle.std.specs.Prelude.{ℕ, Bool, true, false, List, [], ◌∷◌, Option, Result}
 use Rattle.sf_live.specs.Runs.{CutLive, MeansLive, WroteLive}
 use Rattle.sf_app_options.specs.declared.options.Run.{Run}
 use Rattle.sf_app_options.specs.declared.options.Run.TheVariants as run
 use Rattle.sf_script_scene.specs.Scene.{SceneValue}
 use Rattle.sf_record_sums.specs.sf_record.Records.{bytes_of, record_bytes}
+use Rattle.sf_record_sums.specs.sf_record.declared.encode.RunFault.{RunFault}
 use Rattle.sf_record_sums.specs.sf_record.declared.record.Record.{Record}
 use Rattle.sf_record_sums.specs.sf_record.declared.record.Record.TheVariants as rec
 use Rattle.sf_live.specs.law_played.Ends.{ArePlayRecords}
 use Rattle.sf_live.specs.law_play_order.Happening.{HappenedInOrder}
-use Rattle.sf_live.specs.sf_play_write.Writing.{Writes, WritesPart}
+use Rattle.sf_live.specs.sf_play_write.Writing.{Writes, WritesPart, WritingEnded}
 use Rattle.sf_record_sums.specs.Summaries.{summary_of, wrapped}
 
 -- what is written of records: they themselves, or under `--summary` the one record of what they come to, each number modulo 2^64
@@ -50,3 +51,7 @@ ShowsRun _ summary tells scene old new = ShowsPlay summary scene old new
 abbrev pub ShowsRunPart : Run → Bool → Bool → SceneValue → Option (List ℕ) → Option (List ℕ) → Type 0
 ShowsRunPart run.Live summary tells scene old new = CutLive tells scene old new
 ShowsRunPart _ summary tells scene old new = ShowsPart summary scene old new
+
+-- how a play ended that is summed up
+abbrev pub SumEnded : {A : Type 0} → SceneValue → Result A RunFault → Option (List ℕ) → Option (List ℕ) → ℕ → ℕ → Type 0
+SumEnded scene result old new before after = WritingEnded result before after (λ _. ShowsPlay true scene old new) (ShowsPart true scene old new)

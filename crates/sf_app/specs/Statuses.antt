@@ -12,7 +12,7 @@ use Rattle.sf_record_sums.specs.sf_record.declared.encode.RunFault.TheVariants a
 use Rattle.sf_record_sums.specs.sf_record.declared.record.Record.TheVariants as rec
 use Rattle.sf_record_sums.specs.sf_record.declared.record.Record.{Record}
 use Rattle.sf_record_sums.specs.sf_record.Records.{record_bytes}
-use Rattle.sf_live.specs.sf_play_write.Writing.{CutSome}
+use Rattle.sf_live.specs.sf_play_write.Writing.{CutSome, WritingEnded}
 use Rattle.sf_app.specs.Shown.{Means, ShowsRun, ShowsRunPart, bytes_shown}
 use Rattle.sf_app.specs.Words.{IsScript, IsTold, is_gen, tells_place}
 
@@ -75,6 +75,12 @@ PrefixOf options (Err fault) old new = TookPrefix old new (fault_bytes fault)
 abbrev pub WritesPrefix : Option Options → Option (List ℕ) → Option (List ℕ) → Option (List ℕ) → Type 0
 WritesPrefix None left old new = new ≡ old
 WritesPrefix (Some options) left old new = (bytes : List ℕ) → IsTold options left bytes → PrefixOf options (parsed_of bytes) old new
+
+-- how the run of a scene ended that the words ask for; the counts are those of the sink's faults
+abbrev pub ShownEnded : {A : Type 0} → Options → SceneValue → Result A RunFault → Option (List ℕ) → Option (List ℕ) → ℕ → ℕ → Type 0
+ShownEnded options scene result old new before after =
+    WritingEnded result before after (λ _. ShowsRun options.run options.summary (tells_place options) scene old new)
+    (ShowsRunPart options.run options.summary (tells_place options) scene old new)
 
 -- the status of a run that wrote all, or ended with a fault
 abbrev pub status_of : Result (Unit {0}) RunFault → ℕ

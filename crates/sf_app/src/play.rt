@@ -1,9 +1,6 @@
 //! The step from the command to a play: it opens the table of turns, and hands the scene to
 //! `sf_play_write`.
-ghost use Rattle.std.specs.Prelude.{◌≤◌, OnErr, OnOk, IsErrOf};
-ghost use Rattle.sf_io.specs.Causes.{Rose};
-ghost use Rattle.sf_record_sums.specs.sf_record.declared.encode.RunFault.TheVariants.{WriteFault};
-ghost use Rattle.sf_live.specs.sf_play_write.Runs.{CutRun, WroteRun};
+ghost use Rattle.sf_live.specs.sf_play_write.Runs.{PlayEnded};
 
 use crate::turns::turns_for;
 use sf_base::NoMemory;
@@ -20,10 +17,7 @@ pub fn play<R: Threads + Sync, K: Sink>(
     sink: &mut K,
     scene: Scene,
 ) -> Result<(), RunFault>
-    ensures ok { OnOk result (WroteRun scene (K.taken sink.old) (K.taken sink.new)) }
-    ensures err { OnErr result (CutRun scene (K.taken sink.old) (K.taken sink.new)) }
-    ensures later { K.faults sink.old ≤ K.faults sink.new }
-    ensures failed { IsErrOf result WriteFault → Rose (K.faults sink.old) (K.faults sink.new) }
+    ensures { PlayEnded scene result (K.taken sink.old) (K.taken sink.new) (K.faults sink.old) (K.faults sink.new) }
 {
     match turns_for(engine.alloc, &scene) {
         Ok((seat, stock)) => show_play::<R, K, Brand>(engine, sink, scene, seat, stock),

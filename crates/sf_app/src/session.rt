@@ -1,17 +1,15 @@
 //! The public call `run`, which the headline is about, and what leads from the words of a command
 //! to its status: words, script, scene, then a play or a live run.
-ghost use Rattle.std.specs.Prelude.{◌≡◌, ◌≤◌, ◌⊎◌, ℕ, List, Some, Ok, Err, OnErr, OnOk, IsErrOf, map};
+ghost use Rattle.std.specs.Prelude.{◌≡◌, ◌≤◌, ◌⊎◌, ℕ, List, Some, Ok, Err, map};
 ghost use Rattle.std.specs.String.{string_bytes};
 ghost use Rattle.sf_io.specs.Causes.{Rose};
 ghost use Rattle.sf_app_options.specs.Options.{options_of};
 ghost use Rattle.sf_app_options.specs.declared.options.Options.{Options as OptionsValue};
-ghost use Rattle.sf_record_sums.specs.sf_record.declared.encode.RunFault.TheVariants.{WriteFault};
 ghost use Rattle.sf_script_scene.specs.Scene.{SceneValue};
 ghost use Rattle.law_generated.specs.sf_script.Parse.{parsed_of};
 ghost use Rattle.law_generated.specs.sf_script.declared.fault.ScriptFault.{ScriptFault};
-ghost use Rattle.sf_app.specs.Shown.{ShowsRun, ShowsRunPart};
-ghost use Rattle.sf_app.specs.Statuses.{MeansScript, RunEnded, ScriptEnded, status_of};
-ghost use Rattle.sf_app.specs.Words.{IsTold, tells_place};
+ghost use Rattle.sf_app.specs.Statuses.{MeansScript, RunEnded, ScriptEnded, ShownEnded, status_of};
+ghost use Rattle.sf_app.specs.Words.{IsTold};
 
 use crate::live::live;
 use crate::play::play;
@@ -80,10 +78,7 @@ fn show_run<R: Threads + Wait + Sync, K: Sink, G: Gate + Sync>(
 ) -> Result<(), RunFault>
     requires some { 1 ≤ options.workers }
     requires few { options.workers ≤ 16 }
-    ensures ok { OnOk result (ShowsRun options.run options.summary (tells_place options) scene (K.taken sink.old) (K.taken sink.new)) }
-    ensures err { OnErr result (ShowsRunPart options.run options.summary (tells_place options) scene (K.taken sink.old) (K.taken sink.new)) }
-    ensures later { K.faults sink.old ≤ K.faults sink.new }
-    ensures failed { IsErrOf result WriteFault → Rose (K.faults sink.old) (K.faults sink.new) }
+    ensures { ShownEnded options scene result (K.taken sink.old) (K.taken sink.new) (K.faults sink.old) (K.faults sink.new) }
 {
     let engine = Engine {
         rt,

@@ -1,9 +1,6 @@
 //! A play whose records are summed up instead of written: they go into sums, of which one record is
 //! written at the end.
-ghost use Rattle.std.specs.Prelude.{◌≡◌, ◌≤◌, false, true, OnErr, OnOk, IsErrOf};
-ghost use Rattle.sf_io.specs.Causes.{Rose};
-ghost use Rattle.sf_record_sums.specs.sf_record.declared.encode.RunFault.TheVariants.{WriteFault};
-ghost use Rattle.sf_app.specs.Shown.{ShowsPart, ShowsPlay};
+ghost use Rattle.sf_app.specs.Shown.{SumEnded};
 
 use crate::play::play;
 use sf_io::Sink;
@@ -19,10 +16,7 @@ pub fn sum_up<R: Threads + Sync, K: Sink>(
     sink: &mut K,
     scene: Scene,
 ) -> Result<(), RunFault>
-    ensures ok { OnOk result (ShowsPlay true scene (K.taken sink.old) (K.taken sink.new)) }
-    ensures err { OnErr result (ShowsPart true scene (K.taken sink.old) (K.taken sink.new)) }
-    ensures later { K.faults sink.old ≤ K.faults sink.new }
-    ensures failed { IsErrOf result WriteFault → Rose (K.faults sink.old) (K.faults sink.new) }
+    ensures { SumEnded scene result (K.taken sink.old) (K.taken sink.new) (K.faults sink.old) (K.faults sink.new) }
 {
     let mut tally = Tally::new();
     match play(engine, &mut tally, scene) {

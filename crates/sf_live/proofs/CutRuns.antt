@@ -1,5 +1,5 @@
 -- What a run in threads wrote that came to no end.
-use Rattle.std.proofs.Common.{◌≡◌, ℕ, Bool, List, [], ◌∷◌, map, Option, refl, sym, subst}
+use Rattle.std.proofs.Common.{◌≡◌, ℕ, Bool, List, [], ◌∷◌, map, Option, sym, subst}
 use Rattle.std.specs.List.{All}
 use Rattle.std.proofs.lemmas.List.Elements.{All-nil}
 use Rattle.atomic_table.specs.Seated.{TableId}
@@ -22,7 +22,7 @@ use Rattle.sf_live_compositor.specs.law_played.Vsyncs.{rising_timelines}
 use Rattle.sf_live_compositor.proofs.law_played_lemmas.KeepingLemmas.{none_played}
 use Rattle.sf_live_compositor.proofs.law_played_lemmas.VsyncLemmas.{none_seen}
 use Rattle.sf_live_compositor.specs.Sitting.{CutVsyncs}
-use Rattle.sf_live.specs.Runs.{BeginsLive, CutLive, MeansLive, ShowsOutputs, WroteLive, in_rest, in_vsyncs}
+use Rattle.sf_live.specs.Runs.{BeginsLive, CutLive, ShowsOutputs, WroteLive, in_rest, in_vsyncs}
 use Rattle.sf_live.proofs.VsyncsBegun.{log_cut, no_records}
 
 no_outputs : (scene : SceneValue) → All (ShowsOutputs scene) (told_of scene [] [])

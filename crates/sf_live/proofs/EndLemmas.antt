@@ -41,34 +41,35 @@ use Rattle.sf_live_compositor.specs.sf_play.Going.{EndsRun}
 use Rattle.sf_live_compositor.specs.sf_play.Players.{PlayerOf, SoFar, arrived_at, home_in, run_so, view_in}
 use Rattle.sf_live_compositor.specs.sf_play.Standing.{StandsInRun}
 use Rattle.sf_live_compositor.specs.sf_play_write.Closings.{closing_of}
-use Rattle.sf_live_compositor.specs.sf_play_write.Writing.{Writes, WritesPart}
+use Rattle.sf_live_compositor.specs.sf_play_write.Writing.{Writes, WritesPart, Wrote}
 use Rattle.sf_live_compositor.proofs.sf_play_write_lemmas.ClosingLemmas.{closing_is}
-use Rattle.sf_live_compositor.proofs.sf_play_write_lemmas.WritingLemmas.{part_front, part_more, writes_more}
+use Rattle.sf_live_compositor.proofs.sf_play_write_lemmas.WritingLemmas.{part_more, writes_more}
+use Rattle.sf_live_compositor.proofs.sf_play_write_lemmas.WroteLemmas.{wrote_cut, wrote_then}
 use Rattle.sf_live.specs.inner.Rounds.{HasShownAll, all_reply_records, vsyncs_alone}
 use Rattle.sf_live.specs.Runs.{CutLive, FitsLive, MeansLive, WroteLive, in_rest}
 use Rattle.sf_live.proofs.RoundLemmas.{records_more}
 
--- the next piece of what is made of a list was written behind those before
-pub pieces_more : {X : Type 0} (f : X → List Record) (a b c : Option (List ℕ)) (xs : List X) (i : ℕ) (x : X) → i < length xs → x ≡ get_or xs i x
-    → Writes a b (flat_map f (take i xs)) → Writes b c (f x) → Writes a c (flat_map f (take (i + 1) xs))
-pieces_more {X} f a b c xs i x below is before now =
-    subst (Writes a c)
-    (ap (λ (y : X). flat_map f (take i xs) ++ f y) is
-    ∙ ap (λ (rs : List Record). flat_map f (take i xs) ++ rs) (sym (append-nil (f (get_or xs i x))))
-    ∙ sym (flat_map-append f (take i xs) (get_or xs i x ∷ []))
-    ∙ ap (flat_map f) (sym (take_more xs i x below)))
-    (writes_more a b c (flat_map f (take i xs)) (f x) before now)
+-- the next piece of what is made of a list was written behind those before, or a fault cut it
+module _ {S X : Type 0} (taken : S → Option (List ℕ)) (faults : S → ℕ) (f : X → List Record) (a b c : S) (xs : List X) (i : ℕ) (x : X) (below : i < length xs) (is : x ≡ get_or xs i x)
+    (before : Wrote {A = Unit {0}} taken faults a b (Ok tt) (flat_map f (take i xs))) where
+  pub pieces_more : Wrote {A = Unit {0}} taken faults b c (Ok tt) (f x) → Wrote {A = Unit {0}} taken faults a c (Ok tt) (flat_map f (take (i + 1) xs))
+  pieces_more now =
+      subst (Wrote {A = Unit {0}} taken faults a c (Ok tt))
+      (ap (λ (y : X). flat_map f (take i xs) ++ f y) is
+      ∙ ap (λ (rs : List Record). flat_map f (take i xs) ++ rs) (sym (append-nil (f (get_or xs i x))))
+      ∙ sym (flat_map-append f (take i xs) (get_or xs i x ∷ []))
+      ∙ ap (flat_map f) (sym (take_more xs i x below)))
+      (wrote_then taken faults a b c (Ok tt) (flat_map f (take i xs)) (f x) before now)
 
--- a part of the next piece was written
-pub pieces_part : {X : Type 0} (f : X → List Record) (a b c : Option (List ℕ)) (xs : List X) (i : ℕ) (x : X) → i < length xs → x ≡ get_or xs i x
-    → Writes a b (flat_map f (take i xs)) → WritesPart b c (f x) → WritesPart a c (flat_map f xs)
-pieces_part {X} f a b c xs i x below is before now =
-    subst (WritesPart a c)
-    (ap (λ (y : X). flat_map f (take i xs) ++ (f y ++ flat_map f (drop (i + 1) xs))) is
-    ∙ ap (λ (l : List X). flat_map f (take i xs) ++ flat_map f l) (sym (drop_more xs i x below))
-    ∙ sym (flat_map-append f (take i xs) (drop i xs))
-    ∙ ap (flat_map f) (take-append-drop i xs))
-    (part_more a b c (flat_map f (take i xs)) (f x ++ flat_map f (drop (i + 1) xs)) before (part_front b c (f x) (flat_map f (drop (i + 1) xs)) now))
+  pub pieces_cut : (fault : RunFault) → Wrote {A = Unit {0}} taken faults b c (Err fault) (f x) → Wrote {A = Unit {0}} taken faults a c (Err fault) (flat_map f xs)
+  pieces_cut fault now =
+      subst (Wrote {A = Unit {0}} taken faults a c (Err fault))
+      (ap (λ (y : X). flat_map f (take i xs) ++ (f y ++ flat_map f (drop (i + 1) xs))) is
+      ∙ ap (λ (l : List X). flat_map f (take i xs) ++ flat_map f l) (sym (drop_more xs i x below))
+      ∙ sym (flat_map-append f (take i xs) (drop i xs))
+      ∙ ap (flat_map f) (take-append-drop i xs))
+      (wrote_then taken faults a b c (Err fault) (flat_map f (take i xs)) (f x ++ flat_map f (drop (i + 1) xs)) before
+      (wrote_cut taken faults b c fault (f x) (flat_map f (drop (i + 1) xs)) now))
 
 replies_alone : (replies : List ReplyRecord) → flat_map event_records (map event.Reply replies) ≡ map rec.Repl replies
 replies_alone [] = refl

@@ -2,6 +2,7 @@
 use Rattle.std.proofs.Common.{◌≡◌, ℕ, zero, suc, Bool, true, false, List, [], ◌∷◌, length, map, Option, None, Some, refl, sym, ap, ◌∙◌, subst, arith}
 use Rattle.std.specs.Prelude.{◌==◌, if◌then◌else◌, nat_lt, slice_get, slice_set}
 use Rattle.std.specs.List.{AllByRecursion, AllZip, position}
+use Rattle.std.proofs.lemmas.List.{length-set}
 use Rattle.atomic_table.specs.Seated.{TableId}
 use Rattle.sf_picture.specs.declared.picture.Picture.{Picture}
 use Rattle.sf_live_compositor.specs.sf_surface.Tokens.{ReadLeaseOf}
@@ -51,6 +52,11 @@ module _ {B : Type 0} where
 
   pub as_many : (actors : List (Actor B)) (gates : List Gates) → HavePassed actors gates → length actors ≡ length gates
   as_many actors gates have = zip_long HasPassed actors gates have
+
+  -- where the gate is passed for one actor, the others keep theirs
+  pub as_long : (tried : Option ℕ) (actors : List (Actor B)) (old new : List Gates) → PassesFor tried actors old new → length new ≡ length old
+  as_long None actors old new same = ap (λ (gates : List Gates). length gates) same
+  as_long (Some place) actors old new passes = ap (λ (gates : List Gates). length gates) passes.only ∙ length-set old place passes.passed
 
   -- an actor that contracts see alike has passed the same gates
   same_passed : (table : TableId) (was now : Actor B) (of : ActorOf B) (gates : Gates) → IsActor table was of → IsActor table now of → HasPassed was gates → HasPassed now gates

@@ -1,5 +1,5 @@
 -- The vsyncs of the rounds behind a run, and how far they have been written.
-use Rattle.std.proofs.Common.{◌≡◌, ℕ, Bool, not, List, [], ◌∷◌, ◌++◌, map, Option, ap, ◌∙◌, sym, subst, inl, inr}
+use Rattle.std.proofs.Common.{◌≡◌, ℕ, Bool, not, List, [], ◌∷◌, ◌++◌, map, Option, Result, Ok, Err, OnErr, OnOk, ap, ◌∙◌, sym, subst, inl, inr}
 use Rattle.std.specs.Prelude.{◌⊎◌}
 use Rattle.std.specs.List.{flat_map}
 use Rattle.std.proofs.lemmas.List.{append-nil, map-append}
@@ -14,6 +14,7 @@ use Rattle.sf_live_compositor.specs.sf_surface.Tokens.{ReadLeaseOf}
 use Rattle.sf_script_scene.specs.Scene.{SceneValue}
 use Rattle.sf_live_compositor.specs.sf_actor.Scripts.{picture_at}
 use Rattle.sf_live_compositor.specs.sf_record.Events.{event_records, events_records, vsync_records}
+use Rattle.sf_live_compositor.specs.sf_record.declared.encode.RunFault.{RunFault}
 use Rattle.sf_live_compositor.specs.sf_record.declared.event.Event.{Event}
 use Rattle.sf_live_compositor.specs.sf_record.declared.event.Event.TheVariants as event
 use Rattle.sf_live_compositor.specs.sf_record.declared.event.VsyncRecords.{VsyncRecords}
@@ -39,11 +40,16 @@ use Rattle.sf_live_compositor.specs.sf_play.declared.action.Action.TheVariants a
 use Rattle.sf_live_compositor.specs.sf_play.Actions.{is_end}
 use Rattle.sf_live_compositor.specs.sf_play_write.Vsyncs.{records_if, told_with, without_image}
 use Rattle.sf_live_compositor.specs.sf_play_write.Writing.{Writes, WritesPart}
+use Rattle.sf_live_compositor.specs.sf_play_write.declared.shows.Shows.{Shows}
 use Rattle.sf_live_compositor.proofs.sf_play_write_lemmas.WritingLemmas.{part_more, part_whole, writes_more}
 use Rattle.law_live_order.specs.law_rounds.Rounds.{IsInOrder}
 use Rattle.sf_live.specs.Runs.{BeginsLive, CutLive, ShowsOutputs, in_vsyncs}
-use Rattle.sf_live.specs.inner.Rounds.{HasShown, MayWriteAction, ShowsOn, action_written, vsyncs_alone}
+use Rattle.sf_live.specs.inner.Rounds.{CutsAction, HasShown, MayWriteAction, RunAt, ShowsOn, WritesAction, action_written, vsyncs_alone}
 use Rattle.sf_live.proofs.VsyncReports.{told_is}
+
+-- a call that gave its value had no fault
+pub no_fault : {A : Type 0} {x : A} {fault : RunFault} → Ok x ≡ Err fault → ⊥
+no_fault is = cc
 
 vsyncs_more : (events : List Event) (one : Event) → vsyncs_in (events ++ one ∷ []) ≡ vsyncs_in events ++ vsync_in one
 unfolding vsyncs_in
@@ -115,6 +121,21 @@ module _ {B : Type 0} where
   may_write table scene plan so (action.Vsync report) player planned goes = (planned, goes.tells)
   may_write table scene plan so action.Idle player planned goes = tt
   may_write table scene plan so action.End player planned goes = tt
+
+  -- where each scene's records of an action were written, or a prefix of them
+  pub written_each : {A : Type 0} (result : Result A RunFault) (shows : Shows) (came_to : Action) (before after : RunAt B)
+      → ((scene : SceneValue) → MayWriteAction scene shows.plan came_to before.player → AreShown (picture_at scene.pictures) before.screens
+      → OnOk result (Writes before.taken after.taken (action_written (picture_at scene.pictures) shows.plan shows.timelines.items before.player came_to) × AreShown (picture_at scene.pictures) after.screens))
+      → OnOk result (WritesAction shows came_to before after)
+  written_each (Ok x) shows came_to before after each = each
+  written_each (Err fault) shows came_to before after each = tt
+
+  pub cut_each : {A : Type 0} (result : Result A RunFault) (shows : Shows) (came_to : Action) (before after : RunAt B)
+      → ((scene : SceneValue) → MayWriteAction scene shows.plan came_to before.player → AreShown (picture_at scene.pictures) before.screens
+      → OnErr result (WritesPart before.taken after.taken (action_written (picture_at scene.pictures) shows.plan shows.timelines.items before.player came_to)))
+      → OnErr result (CutsAction shows came_to before after)
+  cut_each (Ok x) shows came_to before after each = tt
+  cut_each (Err fault) shows came_to before after each = each
 
   -- what there is to show after a vsync, for the handler as the player tells it
   pub stage_told : (scene : SceneValue) (plan : Plan) (player : PlayerOf B) (handler : HandlerOf ReadLeaseOf) → (plan ≡ plan_of scene) × TellsStage scene player.play → handler ≡ player.play.handler

@@ -29,7 +29,7 @@ use Rattle.sf_live_compositor.specs.sf_output_screen.ScreenLists.{AreShown}
 use Rattle.sf_live_compositor.specs.sf_output_screen.Screens.{IsShown}
 use Rattle.sf_live_compositor.specs.sf_output_screen.declared.screens.OutputScreen.{OutputScreen}
 use Rattle.sf_live_compositor.specs.sf_play_write.declared.shows.Shows.{Shows}
-use Rattle.sf_live_compositor.specs.sf_play_write.Writing.{Writes}
+use Rattle.sf_live_compositor.specs.sf_play_write.Writing.{Writes, WritingEnded}
 use Rattle.sf_live_compositor.proofs.sf_play_write_lemmas.ActionLemmas.{timelines_within}
 use Rattle.sf_live_compositor.proofs.sf_play_write_lemmas.WritingLemmas.{part_whole, writes_none}
 use Rattle.sf_live_compositor.specs.sf_live_seats.declared.first.FirstSeats.{FirstSeats}
@@ -83,7 +83,11 @@ abbrev IsWanting : {A : Type 0} → Result A RunFault → Type 0
 IsWanting (Ok x) = ⊥
 IsWanting (Err e) = IsWant e
 
--- a run that ends for want of memory
+-- a call that ends for want of memory, with no fault of its sink
+pub wanting : {A : Type 0} (done : A → Type 0) (cut : Type 0) (count : ℕ) → cut → WritingEnded {A = A} (Err NoMemory) count count done cut
+wanting done cut count is_cut = record { ok = tt; err = is_cut; later = omega arith; failed = λ is. absurd (subst IsWanting is tt) }
+
+-- a run that ends so
 pub ended_wanting : {A : Type 0} (tells : Bool) (scene : SceneValue) (start now : Option (List ℕ)) (count : ℕ) → CutLive tells scene start now → LiveEnded {A = A} tells scene (Err NoMemory) start now count count
 ended_wanting tells scene start now count cut = record { ok = tt; err = cut; later = omega arith; failed = λ is. absurd (subst IsWanting is tt) }
 

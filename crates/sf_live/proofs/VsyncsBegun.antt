@@ -1,10 +1,10 @@
 -- What a log of a compositor's vsyncs says of their records by itself, whether or not the threads are ever joined: a live run begins so.
 use Rattle.std.proofs.Common.{◌≡◌, ℕ, zero, suc, ◌+◌, ◌*◌, ◌<◌, ◌≤◌, ◌==◌, ◌&&◌, ◌||◌, if◌then◌else◌, Bool, true, false, List, [], ◌∷◌, ◌++◌, map, Option, arith, refl, ap, sym, ◌∙◌, subst, inl, inr, ◌⊎◌, true≢false}
-use Rattle.std.specs.Prelude.{Contains, pos}
-use Rattle.std.specs.List.{All, AllZip, flat_map, list_any, range_with_len}
+use Rattle.std.specs.Prelude.{pos}
+use Rattle.std.specs.List.{All, AllZip, list_any, range_with_len}
 use Rattle.std.proofs.lemmas.Bool.{cases_Bool, cases_eq, eq-eqb, ne_eqb}
 use Rattle.std.proofs.lemmas.List.{append-nil, map-append}
-use Rattle.std.proofs.lemmas.List.Elements.{All-append, All-cons, All-head, All-nil, All-tail, Contains-append_right}
+use Rattle.std.proofs.lemmas.List.Elements.{All-cons, All-head, All-nil, All-tail, Contains-append_right}
 use Rattle.std.proofs.lemmas.List.Folds.{list_any-append}
 use Rattle.atomic_table.specs.Seated.{TableId}
 use Rattle.law_live_order.proofs.law_joins_lemmas.Fronts.{arrivals_looked, times_after}
@@ -14,7 +14,6 @@ use Rattle.sf_base.proofs.PointLemmas.{greatest-append, has_le}
 use Rattle.sf_base.specs.Fences.{no_points, value_of}
 use Rattle.sf_base.specs.Points.{greatest, points_from}
 use Rattle.sf_base.specs.declared.fences.Seen.{Seen}
-use Rattle.sf_live_compositor.specs.sf_actor.Known.{AreAmong}
 use Rattle.sf_live_compositor.specs.sf_actor.Names.{FrameOf}
 use Rattle.sf_live_compositor.specs.sf_actor.Plain.{taken_in}
 use Rattle.sf_live_compositor.specs.sf_actor.Scripts.{picture_at}
@@ -26,14 +25,14 @@ use Rattle.sf_live_compositor.specs.sf_commit.declared.vsync.Commit.{Commit}
 use Rattle.sf_live_compositor.specs.sf_live_seats.Arriving.{ArrivalsPass}
 use Rattle.sf_live_compositor.specs.sf_live_seats.declared.locks.Locks.{Locks}
 use Rattle.sf_live_compositor.specs.sf_output_plan.declared.plan.Plan.{Plan}
-use Rattle.sf_live_compositor.specs.sf_output_plan.Due.{ImageDue, outputs_due}
+use Rattle.sf_live_compositor.specs.sf_output_plan.Due.{outputs_due}
 use Rattle.sf_live_compositor.specs.sf_record.Events.{events_records}
 use Rattle.sf_live_compositor.specs.sf_record.declared.event.Event.TheVariants as event
 use Rattle.sf_live_compositor.specs.sf_record.declared.event.VsyncRecords.{VsyncRecords}
 use Rattle.sf_live_compositor.specs.sf_record.declared.record.CommitRecord.{CommitRecord}
 use Rattle.sf_live_compositor.specs.sf_record.declared.record.Record.{Record}
 use Rattle.sf_live_compositor.specs.sf_surface.Tokens.{Issued, ReadLeaseOf}
-use Rattle.sf_live_compositor.specs.sf_token.Pending.{Arrival, IsRisingFrom}
+use Rattle.sf_live_compositor.specs.sf_token.Pending.{Arrival}
 use Rattle.sf_live_compositor.specs.sf_txn.Buffers.{Buffer}
 use Rattle.sf_live_compositor.specs.sf_txn.declared.lease.Lease.{Ghosts}
 use Rattle.law_live_order.specs.law_joins.law_threads.sf_times.declared.protocol.Knows.{Knows}
@@ -55,7 +54,7 @@ use Rattle.sf_live_compositor.specs.law_played.Framing.{framed_arrival, framed_o
 use Rattle.sf_live_compositor.specs.law_played.Progress.{AreInOrder, HasPlayed, SaysVsync, WroteWhatShows}
 use Rattle.sf_live_compositor.specs.law_played.Seeing.{HasSeen, TellsTime, value_shown}
 use Rattle.sf_live_compositor.specs.law_played.Stages.{VsyncAt, bare_round, begun, commits_from, ended, round_after, told_from, told_of}
-use Rattle.sf_live_compositor.specs.law_played.Vsyncs.{WasSignalled, commits_in, commits_of_vsync, rising_timelines}
+use Rattle.sf_live_compositor.specs.law_played.Vsyncs.{WasSignalled, commits_in, rising_timelines}
 use Rattle.sf_live_compositor.proofs.law_played_lemmas.KeepingLemmas.{none_played}
 use Rattle.sf_live_compositor.proofs.law_played_lemmas.LeaseLemmas.{images_go_on}
 use Rattle.sf_live_compositor.proofs.law_played_lemmas.ProgressLemmas.{goes_further, goes_on_by, goes_silently, tells_no_more}

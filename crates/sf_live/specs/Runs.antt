@@ -1,16 +1,14 @@
 -- What a live run begins with, and what is written of the whole of it.
-use Rattle.std.specs.Prelude.{All, ◌≡◌, ℕ, ◌≤◌, Bool, true, List, [], ◌∷◌, ◌++◌, map, Option, Result, IsErrOf, OnErr, OnOk}
+use Rattle.std.specs.Prelude.{All, ◌≡◌, ℕ, ◌≤◌, Bool, true, List, [], ◌∷◌, ◌++◌, map, Option, Result}
 use Rattle.std.specs.List.{flat_map}
 use Rattle.atomic_table.specs.Seated.{TableId}
 use Rattle.law_live_order.specs.law_rounds.law_order.Order.{InOneOrder}
 use Rattle.law_live_order.specs.law_rounds.law_waits.Leaving.{LeavesNone}
-use Rattle.sf_io.specs.Causes.{Rose}
 use Rattle.sf_script_scene.specs.Scene.{SceneValue}
 use Rattle.sf_live_compositor.specs.sf_actor.Makers.{Run}
 use Rattle.sf_live_compositor.specs.sf_actor.Names.{FrameOf}
 use Rattle.sf_live_compositor.specs.sf_record.Events.{events_records}
 use Rattle.sf_live_compositor.specs.sf_record.declared.encode.RunFault.{RunFault}
-use Rattle.sf_live_compositor.specs.sf_record.declared.encode.RunFault.TheVariants.{WriteFault}
 use Rattle.sf_live_compositor.specs.sf_record.declared.event.Event.TheVariants as event
 use Rattle.sf_live_compositor.specs.sf_record.declared.event.VsyncRecords.{VsyncRecords}
 use Rattle.sf_live_compositor.specs.sf_record.declared.record.Record.{Record}
@@ -24,7 +22,7 @@ use Rattle.sf_live_compositor.specs.law_played.Runs.{rising_actors}
 use Rattle.sf_live_compositor.specs.law_played.Stages.{VsyncAt, told_of}
 use Rattle.sf_live_compositor.specs.law_played.Vsyncs.{AreVsyncs, commits_in, vsyncs_in}
 use Rattle.sf_live_compositor.specs.sf_play_write.Vsyncs.{AreSameOutputs}
-use Rattle.sf_live_compositor.specs.sf_play_write.Writing.{Writes, WritesPart}
+use Rattle.sf_live_compositor.specs.sf_play_write.Writing.{Writes, WritesPart, WritingEnded}
 use Rattle.sf_turns.specs.Counts.{range}
 use Rattle.sf_turns.specs.Views.{SeatView, StockView}
 use Rattle.sf_live_compositor.specs.sf_actor_set.Scripts.{permits_of}
@@ -84,8 +82,5 @@ pub data CutLive (tells : Bool) (scene : SceneValue) (old new : Option (List ℕ
   in_rest : (shows : Shows) → FitsLive tells scene shows → WritesPart old new (records_of scene shows) → CutLive tells scene old new
 
 -- how a live run ended that wrote behind this output; the counts are those of the sink's faults
-pub record LiveEnded {A : Type 0} (tells : Bool) (scene : SceneValue) (result : Result A RunFault) (start now : Option (List ℕ)) (before after : ℕ) : Type 0 where
-  pub ok : OnOk result (WroteLive tells scene start now)
-  pub err : OnErr result (CutLive tells scene start now)
-  pub later : before ≤ after
-  pub failed : IsErrOf result WriteFault → Rose before after
+abbrev pub LiveEnded : {A : Type 0} → Bool → SceneValue → Result A RunFault → Option (List ℕ) → Option (List ℕ) → ℕ → ℕ → Type 0
+LiveEnded tells scene result start now before after = WritingEnded result before after (λ _. WroteLive tells scene start now) (CutLive tells scene start now)

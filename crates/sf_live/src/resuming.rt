@@ -1,11 +1,11 @@
 //! Where a live run becomes a play again: the player that goes on with it once its threads are
 //! joined.
-ghost use Rattle.std.specs.Prelude.{◌≡◌, ℕ, List, Option};
+ghost use Rattle.std.specs.Prelude.{◌≡◌};
 ghost use Rattle.sf_live_compositor.specs.sf_play.Players.{home_in};
 ghost use Rattle.sf_live_compositor.specs.sf_live_seats.Seats.{tells_of};
 ghost use Rattle.sf_live_compositor.specs.sf_live_seats.declared.locks.Locks.{Locks};
 ghost use Rattle.sf_live_compositor.specs.sf_live_threads.Gates.{HavePassed};
-ghost use Rattle.sf_live.specs.inner.Resuming.{GoesOnFrom, ShowsJoined};
+ghost use Rattle.sf_live.specs.inner.Resuming.{MayGoOn, ShowsJoined};
 ghost use Rattle.sf_live.specs.inner.Threads.{IsTogether, RunOf};
 
 use crate::threads::Joined;
@@ -34,8 +34,7 @@ pub(crate) fn go_on<B: TableName>(
     handler: Handler<ReadLease<B>>,
     vsyncs: u32,
 ) -> Resumed<B>
-    requires goes { (run : RunOf B) × (locks : Locks B) × (start : Option (List ℕ))
-        × GoesOnFrom ⟦<ReadLease<B> as Lease>⟧ B.table run locks start joined period order handler vsyncs }
+    requires goes { MayGoOn ⟦<ReadLease<B> as Lease>⟧ B.table joined period order handler vsyncs }
     ensures shown { ShowsJoined ⟦<ReadLease<B> as Lease>⟧ B.table joined period order handler vsyncs result.player }
     ensures told { (run : RunOf B) (locks : Locks B) → IsTogether ⟦<ReadLease<B> as Lease>⟧ B.table run locks joined
         → (home_in result.player.play).tells ≡ tells_of locks }

@@ -1,19 +1,16 @@
 //! The end of a live run, on one thread: rounds up to the first in which nothing is done, with a
 //! gate before each step, then the replies to all steps and the records that end the run.
-ghost use Rattle.std.specs.Prelude.{◌≡◌, ◌<◌, ◌≤◌, ◌++◌, ℕ, true, All, IfOk, IsErrOf, List, OnErr, OnOk, Option, length, map};
-ghost use Rattle.sf_io.specs.Causes.{Rose};
+ghost use Rattle.std.specs.Prelude.{◌≡◌, ◌<◌, ◌≤◌, ◌++◌, true, All, IfOk, OnOk, length, map};
 ghost use Rattle.sf_live.specs.inner.Rounds.{
-  CutsAction,
-  CutsRounds,
-  CutsRun,
-  HasShownBy,
+  ActionEnded,
+  EndsShown,
+  HasShownSome,
   MayWriteAction,
+  NextEnded,
   PassesFor,
-  ShowsNext,
-  ShowsRounds,
-  WritesAction,
-  WritesRun,
+  RoundsEnded,
   all_reply_records,
+  run_at,
 };
 ghost use Rattle.sf_live_compositor.specs.sf_play.Going.{fuel_of};
 ghost use Rattle.sf_live_compositor.specs.sf_play.Players.{home_in};
@@ -22,11 +19,11 @@ ghost use Rattle.sf_live_compositor.specs.sf_record.declared.record.Record.TheVa
 ghost use Rattle.sf_live_compositor.specs.law_played.Replies.{reply_shown};
 ghost use Rattle.sf_script_scene.specs.Scene.{SceneValue};
 ghost use Rattle.sf_live_compositor.specs.sf_play_write.Closings.{closing_of};
-ghost use Rattle.sf_live_compositor.specs.sf_play_write.Showing.{written_at};
-ghost use Rattle.sf_live_compositor.specs.sf_play_write.Writing.{Writes, WritesPart};
+ghost use Rattle.sf_live_compositor.specs.sf_play_write.Writing.{Wrote};
 ghost use Rattle.sf_live_compositor.specs.sf_actor_steps.declared.actor.Actor.{Actor as ActorIn};
 ghost use Rattle.sf_live_compositor.specs.sf_live_threads.Gates.{HavePassed};
 
+use crate::resuming::Resumed;
 use sf_io::{Gate, Sink};
 use sf_live_compositor::{
     Action, Actor, Engine, Gates, Player, Reply, RunFault, Screens, Shows, reply_record,
@@ -65,10 +62,8 @@ fn write_action<R: Threads + Sync, K: Sink, B: TableName>(
 ) -> Result<(), RunFault>
     requires timelines { All (λ timeline. (1 ≤ timeline) × (timeline ≤ 64)) shows.now.timelines.items }
     requires may { (scene : SceneValue) × MayWriteAction scene shows.now.plan action player.now }
-    ensures ok { WritesAction shows.now player.now action (K.taken sink.old) (K.taken sink.new) screens.old screens.new result }
-    ensures err { CutsAction shows.now player.now action (K.taken sink.old) (K.taken sink.new) screens.old result }
-    ensures later { K.faults sink.old ≤ K.faults sink.new }
-    ensures failed { IsErrOf result RunFault.WriteFault → Rose (K.faults sink.old) (K.faults sink.new) }
+    ensures { ActionEnded shows.now action (run_at K.taken K.faults sink.old screens.old player.now)
+        (run_at K.taken K.faults sink.new screens.new player.now) result }
 {
     match action {
         Action::Vsync(report) => show_vsync(
@@ -91,26 +86,23 @@ fn show_action<R: Threads + Wait + Sync, K: Sink, G: Gate, B: TableName>(
     shows: &Shows,
     screens: &mut Screens,
     gate: &G,
-    gates: &mut [Gates],
-    player: &mut Player<B>,
+    run: &mut Resumed<B>,
 ) -> Result<bool, RunFault>
-    requires gates { HavePassed player.old.play.actor_set.actors gates.old }
-    requires shown { (scene : SceneValue) × (start : Option (List ℕ)) × HasShownBy B.table scene shows.now start (written_at (K.taken sink.old) screens.old player.old) }
-    ensures on { ShowsNext B.table shows.now (written_at (K.taken sink.old) screens.old player.old) (written_at (K.taken sink.new) screens.new player.new) result }
-    ensures err { CutsRounds B.table shows.now (written_at (K.taken sink.old) screens.old player.old) (K.taken sink.new) result }
-    ensures gates { IfOk result (λ _. HavePassed player.new.play.actor_set.actors gates.new) }
-    ensures less { IfOk result (λ goes_on. goes_on ≡ true → fuel_of player.new < fuel_of player.old) }
-    ensures told { IfOk result (λ _. (home_in player.new.play).tells ≡ (home_in player.old.play).tells) }
-    ensures later { K.faults sink.old ≤ K.faults sink.new }
-    ensures failed { IsErrOf result RunFault.WriteFault → Rose (K.faults sink.old) (K.faults sink.new) }
+    requires gates { HavePassed run.old.player.play.actor_set.actors run.old.gates.items }
+    requires shown { HasShownSome B.table shows.now (run_at K.taken K.faults sink.old screens.old run.old.player) }
+    ensures ended { NextEnded B.table shows.now (run_at K.taken K.faults sink.old screens.old run.old.player)
+        (run_at K.taken K.faults sink.new screens.new run.new.player) result }
+    ensures gates { IfOk result (λ _. HavePassed run.new.player.play.actor_set.actors run.new.gates.items) }
+    ensures less { IfOk result (λ goes_on. goes_on ≡ true → fuel_of run.new.player < fuel_of run.old.player) }
+    ensures told { IfOk result (λ _. (home_in run.new.player.play).tells ≡ (home_in run.old.player.play).tells) }
 {
-    pass_gate(engine.rt, gate, gates, player);
-    let action = match player.next() {
+    pass_gate(engine.rt, gate, &mut run.gates, &run.player);
+    let action = match run.player.next() {
         Ok(action) => action,
         Err(_) => return Err(RunFault::NoMemory),
     };
     let goes_on = !action.is_end();
-    match write_action(engine, sink, shows, screens, player, action) {
+    match write_action(engine, sink, shows, screens, &run.player, action) {
         Ok(()) => Ok(goes_on),
         Err(fault) => Err(fault),
     }
@@ -123,19 +115,16 @@ fn show_rounds<R: Threads + Wait + Sync, K: Sink, G: Gate, B: TableName>(
     shows: &Shows,
     screens: &mut Screens,
     gate: &G,
-    gates: &mut [Gates],
-    player: &mut Player<B>,
+    run: &mut Resumed<B>,
 ) -> Result<(), RunFault>
-    requires gates { HavePassed player.old.play.actor_set.actors gates.old }
-    requires shown { (scene : SceneValue) × (start : Option (List ℕ)) × HasShownBy B.table scene shows.now start (written_at (K.taken sink.old) screens.old player.old) }
-    ensures ok { ShowsRounds B.table shows.now (written_at (K.taken sink.old) screens.old player.old) (K.taken sink.new) player.new result }
-    ensures told { OnOk result ((home_in player.new.play).tells ≡ (home_in player.old.play).tells) }
-    ensures err { CutsRounds B.table shows.now (written_at (K.taken sink.old) screens.old player.old) (K.taken sink.new) result }
-    ensures later { K.faults sink.old ≤ K.faults sink.new }
-    ensures failed { IsErrOf result RunFault.WriteFault → Rose (K.faults sink.old) (K.faults sink.new) }
+    requires gates { HavePassed run.old.player.play.actor_set.actors run.old.gates.items }
+    requires shown { HasShownSome B.table shows.now (run_at K.taken K.faults sink.old screens.old run.old.player) }
+    ensures ended { RoundsEnded B.table shows.now (run_at K.taken K.faults sink.old screens.old run.old.player)
+        (run_at K.taken K.faults sink.new screens.new run.new.player) result }
+    ensures told { OnOk result ((home_in run.new.player.play).tells ≡ (home_in run.old.player.play).tells) }
 {
     'actions: loop {
-        match show_action(engine, sink, shows, screens, gate, gates, player) {
+        match show_action(engine, sink, shows, screens, gate, run) {
             Ok(true) => {}
             Ok(false) => return Ok(()),
             Err(fault) => return Err(fault),
@@ -145,10 +134,7 @@ fn show_rounds<R: Threads + Wait + Sync, K: Sink, G: Gate, B: TableName>(
 
 /// Writes the records of replies, one after another.
 fn write_each_reply<K: Sink>(alloc: Global, sink: &mut K, replies: &[Reply]) -> Result<(), RunFault>
-    ensures ok { OnOk result (Writes (K.taken sink.old) (K.taken sink.new) (map rec.Repl (map reply_shown replies.now))) }
-    ensures err { OnErr result (WritesPart (K.taken sink.old) (K.taken sink.new) (map rec.Repl (map reply_shown replies.now))) }
-    ensures later { K.faults sink.old ≤ K.faults sink.new }
-    ensures failed { IsErrOf result RunFault.WriteFault → Rose (K.faults sink.old) (K.faults sink.new) }
+    ensures { Wrote K.taken K.faults sink.old sink.new result (map rec.Repl (map reply_shown replies.now)) }
 {
     for reply in replies {
         match write_made(alloc, sink, reply_record(alloc, reply)) {
@@ -165,10 +151,7 @@ fn write_replies<K: Sink, B: TableName>(
     sink: &mut K,
     actors: &[Actor<B>],
 ) -> Result<(), RunFault>
-    ensures ok { OnOk result (Writes (K.taken sink.old) (K.taken sink.new) (all_reply_records actors.now)) }
-    ensures err { OnErr result (WritesPart (K.taken sink.old) (K.taken sink.new) (all_reply_records actors.now)) }
-    ensures later { K.faults sink.old ≤ K.faults sink.new }
-    ensures failed { IsErrOf result RunFault.WriteFault → Rose (K.faults sink.old) (K.faults sink.new) }
+    ensures { Wrote K.taken K.faults sink.old sink.new result (all_reply_records actors.now) }
 {
     for actor in actors {
         match write_each_reply(alloc, sink, actor.replies()) {
@@ -186,10 +169,7 @@ fn write_rest<K: Sink, B: TableName>(
     player: &Player<B>,
 ) -> Result<(), RunFault>
     requires { All (λ (actor : ActorIn B). length actor.script.steps ≤ 4294967295) player.now.play.actor_set.actors }
-    ensures ok { OnOk result (Writes (K.taken sink.old) (K.taken sink.new) (all_reply_records player.now.play.actor_set.actors ++ closing_of player.now)) }
-    ensures err { OnErr result (WritesPart (K.taken sink.old) (K.taken sink.new) (all_reply_records player.now.play.actor_set.actors ++ closing_of player.now)) }
-    ensures later { K.faults sink.old ≤ K.faults sink.new }
-    ensures failed { IsErrOf result RunFault.WriteFault → Rose (K.faults sink.old) (K.faults sink.new) }
+    ensures { Wrote K.taken K.faults sink.old sink.new result (all_reply_records player.now.play.actor_set.actors ++ closing_of player.now) }
 {
     match write_replies(alloc, sink, player.actor_set().actors()) {
         Ok(()) => {}
@@ -208,19 +188,15 @@ pub(crate) fn write_rounds<R: Threads + Wait + Sync, K: Sink, G: Gate, B: TableN
     shows: &Shows,
     screens: &mut Screens,
     gate: &G,
-    gates: &mut [Gates],
-    player: &mut Player<B>,
+    run: &mut Resumed<B>,
 ) -> Result<(), RunFault>
-    requires gates { HavePassed player.old.play.actor_set.actors gates.old }
-    requires shown { (scene : SceneValue) × (start : Option (List ℕ)) × HasShownBy B.table scene shows.now start (written_at (K.taken sink.old) screens.old player.old) }
-    ensures ok { WritesRun B.table shows.now (written_at (K.taken sink.old) screens.old player.old) (K.taken sink.new) result }
-    ensures err { CutsRun B.table shows.now (written_at (K.taken sink.old) screens.old player.old) (K.taken sink.new) result }
-    ensures later { K.faults sink.old ≤ K.faults sink.new }
-    ensures failed { IsErrOf result RunFault.WriteFault → Rose (K.faults sink.old) (K.faults sink.new) }
+    requires gates { HavePassed run.old.player.play.actor_set.actors run.old.gates.items }
+    requires shown { HasShownSome B.table shows.now (run_at K.taken K.faults sink.old screens.old run.old.player) }
+    ensures { EndsShown B.table shows.now (run_at K.taken K.faults sink.old screens.old run.old.player) result (K.taken sink.new) (K.faults sink.new) }
 {
-    match show_rounds(engine, sink, shows, screens, gate, gates, player) {
+    match show_rounds(engine, sink, shows, screens, gate, run) {
         Ok(()) => {}
         Err(fault) => return Err(fault),
     }
-    write_rest(engine.alloc, sink, player)
+    write_rest(engine.alloc, sink, &run.player)
 }

@@ -3,12 +3,11 @@
 ghost use Rattle.std.specs.Prelude.{ℕ, List, [], ◌∷◌, true, false, Option};
 ghost use Rattle.sf_live_compositor.specs.law_played.Played.{opening};
 ghost use Rattle.sf_script_scene.specs.Scene.{SceneValue};
-ghost use Rattle.sf_live_compositor.specs.sf_play_write.Showing.{written_at};
 ghost use Rattle.sf_live_compositor.specs.sf_play_write.Writing.{Writes};
 ghost use Rattle.sf_live_compositor.specs.sf_live_threads.Gates.{HavePassed};
 ghost use Rattle.sf_live.specs.Openings.{MayStart};
-ghost use Rattle.sf_live.specs.inner.Rounds.{EndsShown, HasShownBy};
-ghost use Rattle.sf_live.specs.inner.Running.{EndsOpened, MayRun};
+ghost use Rattle.sf_live.specs.inner.Rounds.{EndsShown, HasShownSome, run_at};
+ghost use Rattle.sf_live.specs.inner.Running.{EndsBegun, EndsOpened, MayRun};
 ghost use Rattle.sf_live.specs.Runs.{LiveEnded, MayLive};
 
 use crate::opening::{Opened, Turns, open};
@@ -45,26 +44,16 @@ fn run_rounds<R: Threads + Wait + Sync, K: Sink, G: Gate, B: TableName>(
     gate: &G,
     shows: &Shows,
     screens: Screens,
-    resumed: Resumed<B>,
+    run: Resumed<B>,
 ) -> Result<(), RunFault>
-    requires gates { HavePassed resumed.player.play.actor_set.actors resumed.gates.items }
-    requires shown { (scene : SceneValue) × (start : Option (List ℕ)) × HasShownBy B.table scene shows.now start (written_at (K.taken sink.old) screens resumed.player) }
-    ensures { EndsShown B.table shows.now (written_at (K.taken sink.old) screens resumed.player) result
-        (K.taken sink.new) (K.faults sink.old) (K.faults sink.new) }
+    requires gates { HavePassed run.player.play.actor_set.actors run.gates.items }
+    requires shown { HasShownSome B.table shows.now (run_at K.taken K.faults sink.old screens run.player) }
+    ensures { EndsShown B.table shows.now (run_at K.taken K.faults sink.old screens run.player) result (K.taken sink.new) (K.faults sink.new) }
 {
     let mut screens = screens;
-    let Resumed { player, gates } = resumed;
-    let mut player = player;
-    let mut gates = gates;
-    let written = write_rounds(
-        engine,
-        sink,
-        shows,
-        &mut screens,
-        gate,
-        &mut gates,
-        &mut player,
-    );
+    let mut run = run;
+    let written = write_rounds(engine, sink, shows, &mut screens, gate, &mut run);
+    let Resumed { player, gates: _ } = run;
     player.finish();
     written
 }
@@ -134,8 +123,7 @@ fn run_scene<R: Threads + Wait + Sync, K: Sink, G: Gate + Sync, B: TableName + S
 ) -> Result<(), RunFault>
     requires may { MayLive B.table scene turns.seat turns.stock }
     requires begun { (start : Option (List ℕ)) × Writes start (K.taken sink.old) (opening scene ∷ []) }
-    ensures { (start : Option (List ℕ)) → Writes start (K.taken sink.old) (opening scene ∷ [])
-        → LiveEnded tells scene result start (K.taken sink.new) (K.faults sink.old) (K.faults sink.new) }
+    ensures { EndsBegun tells scene result (K.taken sink.old) (K.taken sink.new) (K.faults sink.old) (K.faults sink.new) }
 {
     let Ok(shows) = Shows::of_scene(engine.alloc, &scene) else {
         return Err(RunFault::NoMemory);

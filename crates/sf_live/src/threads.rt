@@ -8,7 +8,7 @@ ghost use Rattle.sf_live_compositor.specs.sf_actor.Desks.{KnowsAll, mark_among};
 ghost use Rattle.sf_live_compositor.specs.sf_actor.Plain.{home_of, view_of};
 ghost use Rattle.sf_live_compositor.specs.sf_live_seats.First.{HasAll, IsFirst};
 ghost use Rattle.sf_live_compositor.specs.sf_live_threads.Meeting.{as_returned};
-ghost use Rattle.sf_live.specs.inner.Threads.{HasRun, IsTogether, RunOf, returned_actor, returned_gates};
+ghost use Rattle.sf_live.specs.inner.Threads.{BringsTogether, HasRun, RunOf, returned_actor, returned_gates};
 
 use sf_base::{Items, NoMemory};
 use sf_calls::Object;
@@ -78,8 +78,7 @@ pub(crate) fn bring_together<B: TableName>(
     requires first { IsFirst B.table locks all_returned.first }
     requires all { HasAll all_returned.first }
     requires ran { (run : RunOf B) × HasRun ⟦<ReadLease<B> as Lease>⟧ B.table run locks pictures all_returned }
-    ensures together { (run : RunOf B) → HasRun ⟦<ReadLease<B> as Lease>⟧ B.table run locks pictures all_returned
-        → IfOk result (IsTogether ⟦<ReadLease<B> as Lease>⟧ B.table run locks) }
+    ensures together { BringsTogether ⟦<ReadLease<B> as Lease>⟧ B.table locks pictures all_returned result }
 {
     let AllReturned { first, returned } = all_returned;
     let (actors, gates) = returned_parts(alloc, returned)?;

@@ -34,6 +34,12 @@ abbrev pub GoesOnFrom : {B : Type 0} → Ghosts ReadLeaseOf SeatView ReadLeaseOf
 GoesOnFrom lease table run locks start joined period order handler vsyncs =
     IsTogether lease table run locks joined × GoesFrom run start period order handler vsyncs
 
+-- there is a run that a player goes on with so
+abbrev pub MayGoOn : {B : Type 0} → Ghosts ReadLeaseOf SeatView ReadLeaseOf Issued → TableId → Joined B → ℕ → List Pick → HandlerOf ReadLeaseOf → ℕ
+    → Type 0
+MayGoOn {B} lease table joined period order handler vsyncs =
+    (run : RunOf B) × (locks : Locks B) × (start : Option (List ℕ)) × GoesOnFrom lease table run locks start joined period order handler vsyncs
+
 -- what a player has shown that goes on with a run are its vsyncs
 abbrev pub HasShownRun : {B : Type 0} → TableId → RunOf B → Option (List ℕ) → PlayerOf B → Type 0
 HasShownRun table run start player = HasShown table run.scene (plan_of run.scene) run.timelines start run.now run.screens player

@@ -1,6 +1,6 @@
 -- What is written in the rounds behind a run in threads: the vsyncs as they come, and at the end the replies to all steps and the
 -- closing records.
-use Rattle.std.specs.Prelude.{◌≡◌, ℕ, Bool, true, false, List, [], ◌∷◌, map, Option, None, Some, slice_get, slice_set, Result, IfOk, OnErr, OnOk}
+use Rattle.std.specs.Prelude.{◌≡◌, ℕ, Bool, true, false, List, [], ◌∷◌, map, Option, None, Some, slice_get, slice_set, Result}
 use Rattle.std.specs.List.{flat_map}
 use Rattle.atomic_table.specs.Seated.{TableId}
 use Rattle.law_live_order.specs.law_rounds.Rounds.{IsInOrder}
@@ -29,14 +29,23 @@ use Rattle.sf_live_compositor.specs.sf_play.Standing.{StandsInRun}
 use Rattle.sf_live_compositor.specs.sf_play.declared.action.Action.{Action}
 use Rattle.sf_live_compositor.specs.sf_play.declared.action.Action.TheVariants as action
 use Rattle.sf_live_compositor.specs.sf_play_write.Vsyncs.{vsync_shown}
-use Rattle.sf_live_compositor.specs.sf_play_write.Showing.{Written}
 use Rattle.sf_live_compositor.specs.sf_play_write.declared.shows.Shows.{Shows}
-use Rattle.sf_live_compositor.specs.sf_play_write.Writing.{Writes, WritesPart}
-use Rattle.sf_live.specs.Runs.{CutLive, LiveEnded, WroteLive}
+use Rattle.sf_live_compositor.specs.sf_play_write.Writing.{Writes, WritesPart, WritingEnded}
+use Rattle.sf_live.specs.Runs.{CutLive, LiveEnded}
 
 -- the vsyncs among events, alone
 abbrev pub vsyncs_alone : List Event → List Event
 vsyncs_alone events = map event.Vsync (vsyncs_in events)
+
+-- how far a run is written: what the sink took and the count of its faults, what the screens show, and where the player stands
+pub record RunAt (B : Type 0) : Type 0 where
+  pub taken : Option (List ℕ)
+  pub faults : ℕ
+  pub screens : List OutputScreen
+  pub player : PlayerOf B
+
+abbrev pub run_at : {K B : Type 0} → (K → Option (List ℕ)) → (K → ℕ) → K → List OutputScreen → PlayerOf B → RunAt B
+run_at taken faults sink screens player = record { taken = taken sink; faults = faults sink; screens = screens; player = player }
 
 module _ {B : Type 0} where
   -- the records of an action as it is done, which left the player so: those of a vsync; the reply to a step is written at the end
@@ -49,19 +58,23 @@ module _ {B : Type 0} where
   MayWriteAction scene plan (action.Vsync report) player = (plan ≡ plan_of scene) × TellsStage scene player.play
   MayWriteAction scene plan other player = Unit {0}
 
-  -- what was written of an action that a player came to, where it can be written: all of its records, and the screens show images still
-  abbrev pub WritesAction : {A : Type 0} → Shows → PlayerOf B → Action → Option (List ℕ) → Option (List ℕ) → List OutputScreen → List OutputScreen
-      → Result A RunFault → Type 0
-  WritesAction shows player came_to old new screens shown result =
-      (scene : SceneValue) → MayWriteAction scene shows.plan came_to player → AreShown (picture_at scene.pictures) screens
-      → OnOk result (Writes old new (action_written (picture_at scene.pictures) shows.plan shows.timelines.items player came_to)
-      × AreShown (picture_at scene.pictures) shown)
+  -- what was written of an action that the player came to, where it can be written: all of its records, and the screens show images still
+  abbrev pub WritesAction : Shows → Action → RunAt B → RunAt B → Type 0
+  WritesAction shows came_to before after =
+      (scene : SceneValue) → MayWriteAction scene shows.plan came_to before.player → AreShown (picture_at scene.pictures) before.screens
+      → Writes before.taken after.taken (action_written (picture_at scene.pictures) shows.plan shows.timelines.items before.player came_to)
+      × AreShown (picture_at scene.pictures) after.screens
 
   -- after a fault, a prefix of these
-  abbrev pub CutsAction : {A : Type 0} → Shows → PlayerOf B → Action → Option (List ℕ) → Option (List ℕ) → List OutputScreen → Result A RunFault → Type 0
-  CutsAction shows player came_to old new screens result =
-      (scene : SceneValue) → MayWriteAction scene shows.plan came_to player → AreShown (picture_at scene.pictures) screens
-      → OnErr result (WritesPart old new (action_written (picture_at scene.pictures) shows.plan shows.timelines.items player came_to))
+  abbrev pub CutsAction : Shows → Action → RunAt B → RunAt B → Type 0
+  CutsAction shows came_to before after =
+      (scene : SceneValue) → MayWriteAction scene shows.plan came_to before.player → AreShown (picture_at scene.pictures) before.screens
+      → WritesPart before.taken after.taken (action_written (picture_at scene.pictures) shows.plan shows.timelines.items before.player came_to)
+
+  -- how the writing of an action ended
+  abbrev pub ActionEnded : {A : Type 0} → Shows → Action → RunAt B → RunAt B → Result A RunFault → Type 0
+  ActionEnded shows came_to before after result =
+      WritingEnded result before.faults after.faults (λ _. WritesAction shows came_to before after) (CutsAction shows came_to before after)
 
   -- The vsyncs of a run so far are written behind what was there before, and the screens have the last frames; the player stands in
   -- the run, and what happened in it is in one order.
@@ -89,42 +102,43 @@ module _ {B : Type 0} where
   ShowsOn false table scene plan timelines start now screens player = HasShownAll table scene start now player
 
   -- the vsyncs of a run so far are written, which shows this
-  abbrev pub HasShownBy : TableId → SceneValue → Shows → Option (List ℕ) → Written B → Type 0
+  abbrev pub HasShownBy : TableId → SceneValue → Shows → Option (List ℕ) → RunAt B → Type 0
   HasShownBy table scene shows start now = HasShown table scene shows.plan shows.timelines.items start now.taken now.screens now.player
 
+  -- so they are of some run
+  abbrev pub HasShownSome : TableId → Shows → RunAt B → Type 0
+  HasShownSome table shows now = (scene : SceneValue) × (start : Option (List ℕ)) × HasShownBy table scene shows start now
+
   -- the next action of such a run was written, too
-  abbrev pub ShowsNext : TableId → Shows → Written B → Written B → Result Bool RunFault → Type 0
-  ShowsNext table shows before after result =
+  abbrev pub ShowsNext : TableId → Shows → RunAt B → RunAt B → Bool → Type 0
+  ShowsNext table shows before after goes_on =
       (scene : SceneValue) (start : Option (List ℕ)) → HasShownBy table scene shows start before
-      → IfOk result (λ goes_on. ShowsOn goes_on table scene shows.plan shows.timelines.items start after.taken after.screens after.player)
+      → ShowsOn goes_on table scene shows.plan shows.timelines.items start after.taken after.screens after.player
 
   -- all of its rounds were
-  abbrev pub ShowsRounds : {A : Type 0} → TableId → Shows → Written B → Option (List ℕ) → PlayerOf B → Result A RunFault → Type 0
-  ShowsRounds table shows before now player result =
-      (scene : SceneValue) (start : Option (List ℕ)) → HasShownBy table scene shows start before → OnOk result (HasShownAll table scene start now player)
+  abbrev pub ShowsRounds : TableId → Shows → RunAt B → RunAt B → Type 0
+  ShowsRounds table shows before after =
+      (scene : SceneValue) (start : Option (List ℕ)) → HasShownBy table scene shows start before → HasShownAll table scene start after.taken after.player
 
   -- after a fault, a prefix of its records
-  abbrev pub CutsRounds : {A : Type 0} → TableId → Shows → Written B → Option (List ℕ) → Result A RunFault → Type 0
-  CutsRounds table shows before now result =
-      (tells : Bool) (scene : SceneValue) (start : Option (List ℕ)) → HasShownBy table scene shows start before → OnErr result (CutLive tells scene start now)
+  abbrev pub CutsRounds : TableId → Shows → RunAt B → RunAt B → Type 0
+  CutsRounds table shows before after =
+      (tells : Bool) (scene : SceneValue) (start : Option (List ℕ)) → HasShownBy table scene shows start before → CutLive tells scene start after.taken
 
-  -- such a run was written to its end
-  abbrev pub WritesRun : {A : Type 0} → TableId → Shows → Written B → Option (List ℕ) → Result A RunFault → Type 0
-  WritesRun table shows before now result =
-      (scene : SceneValue) (start : Option (List ℕ)) → HasShownBy table scene shows start before
-      → OnOk result (WroteLive (home_in before.player.play).tells scene start now)
+  -- how the next action of such a run ended, and how all of its rounds did
+  abbrev pub NextEnded : TableId → Shows → RunAt B → RunAt B → Result Bool RunFault → Type 0
+  NextEnded table shows before after result =
+      WritingEnded result before.faults after.faults (ShowsNext table shows before after) (CutsRounds table shows before after)
 
-  -- after a fault, a prefix of its records
-  abbrev pub CutsRun : {A : Type 0} → TableId → Shows → Written B → Option (List ℕ) → Result A RunFault → Type 0
-  CutsRun table shows before now result =
-      (scene : SceneValue) (start : Option (List ℕ)) → HasShownBy table scene shows start before
-      → OnErr result (CutLive (home_in before.player.play).tells scene start now)
+  abbrev pub RoundsEnded : {A : Type 0} → TableId → Shows → RunAt B → RunAt B → Result A RunFault → Type 0
+  RoundsEnded table shows before after result =
+      WritingEnded result before.faults after.faults (λ _. ShowsRounds table shows before after) (CutsRounds table shows before after)
 
-  -- how such a run ended; the counts are those of the sink's faults
-  abbrev pub EndsShown : {A : Type 0} → TableId → Shows → Written B → Result A RunFault → Option (List ℕ) → ℕ → ℕ → Type 0
-  EndsShown table shows before result now count later =
+  -- how such a run ended, after which the sink has taken this and has this count of faults
+  abbrev pub EndsShown : {A : Type 0} → TableId → Shows → RunAt B → Result A RunFault → Option (List ℕ) → ℕ → Type 0
+  EndsShown table shows before result now later =
       (scene : SceneValue) (start : Option (List ℕ)) → HasShownBy table scene shows start before
-      → LiveEnded (home_in before.player.play).tells scene result start now count later
+      → LiveEnded (home_in before.player.play).tells scene result start now before.faults later
 
   -- the records of the replies to the steps of an actor, and those of all actors
   abbrev pub reply_records : Actor B → List Record

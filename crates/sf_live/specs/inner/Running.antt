@@ -1,5 +1,5 @@
 -- A run in threads with its compositor: how it starts, and what comes of it.
-use Rattle.std.specs.Prelude.{◌≡◌, ℕ, ◌≤◌, List, [], ◌∷◌, Option, None, Result, IfOk}
+use Rattle.std.specs.Prelude.{◌≡◌, ℕ, ◌≤◌, Bool, List, [], ◌∷◌, Option, None, Result, IfOk}
 use Rattle.atomic_table.specs.Seated.{TableId}
 use Rattle.sf_io.specs.Causes.{Rose}
 use Rattle.sf_live_compositor.specs.sf_record.declared.encode.RunFault.{RunFault}
@@ -8,7 +8,7 @@ use Rattle.sf_live_compositor.specs.sf_surface.Tokens.{Issued, ReadLeaseOf}
 use Rattle.sf_turns.specs.Views.{SeatView}
 use Rattle.sf_turns.specs.declared.naming.TableName.{Ghosts as Naming}
 use Rattle.sf_live_compositor.specs.sf_txn.declared.lease.Lease.{Ghosts}
-use Rattle.sf_live_compositor.specs.sf_commit.Handlers.{HandlerOf, new_handler}
+use Rattle.sf_live_compositor.specs.sf_commit.Handlers.{new_handler}
 use Rattle.sf_script_scene.specs.Limits.{most_layers}
 use Rattle.sf_script_scene.specs.Scene.{SceneValue}
 use Rattle.sf_live_compositor.specs.law_played.Frames.{plan_of}
@@ -43,6 +43,11 @@ abbrev pub EndsOpened : {A B : Type 0} → TableId → Setup B → Opened B → 
 EndsOpened table setup opened result old new before after =
     (scene : SceneValue) (start : Option (List ℕ)) → MayRun table scene start old setup opened
     → LiveEnded (tells_of opened.locks) scene result start new before after
+
+-- how a run ended whose first record was written before; the counts are those of the sink's faults
+abbrev pub EndsBegun : {A : Type 0} → Bool → SceneValue → Result A RunFault → Option (List ℕ) → Option (List ℕ) → ℕ → ℕ → Type 0
+EndsBegun tells scene result old new before after =
+    (start : Option (List ℕ)) → Writes start old (opening scene ∷ []) → LiveEnded tells scene result start new before after
 
 module _ {K B : Type 0} {naming : Naming B} where
   -- a compositor of a scene before its first vsync: nothing was sent to it, and it has shown nothing

@@ -1,5 +1,5 @@
 -- A run in threads, once all came back and the locks are closed.
-use Rattle.std.specs.Prelude.{◌≡◌, ℕ, ◌≤◌, List, ◌∷◌, map, Contains, Option}
+use Rattle.std.specs.Prelude.{◌≡◌, ℕ, ◌≤◌, List, ◌∷◌, map, Contains, Option, Result, IfOk}
 use Rattle.std.specs.List.{AllByRecursion}
 use Rattle.atomic_table.specs.Seated.{TableId}
 use Rattle.sf_picture.specs.declared.picture.Picture.{Picture}
@@ -93,3 +93,9 @@ module _ {B : Type 0} where
       pub shows : HasWritten is.joins.begins is.joins.log
       pub actor_set : joined.actor_set ≡ actor_set_joined run.scene ends desk
       pub gates : HavePassed joined.actor_set.actors joined.gates.items
+
+  -- the actors of a run are together again so, whichever run they came back from
+  abbrev pub BringsTogether : {E : Type 0} → Ghosts ReadLeaseOf SeatView ReadLeaseOf Issued → TableId → Locks B → List Picture → AllReturned B
+      → Result (Joined B) E → Type 0
+  BringsTogether lease table locks pictures all_returned result =
+      (run : RunOf B) → HasRun lease table run locks pictures all_returned → IfOk result (IsTogether lease table run locks)

@@ -1,5 +1,9 @@
+use Rattle.sf_live.proofs.RunLemmas.{wanting}
 use Rattle.sf_app.proofs.StatusLemmas.{cut_unbegun}
 use Rattle.sf_app.proofs.play.play.Goals as goal
 
-pub returns-in-Err-clause-err : goal.returns-in-Err-clause-err
-returns-in-Err-clause-err g c = cut_unbegun c.args.scene _ (rw c.scene.view_is at c.scene.invariant)
+pub returns-in-Ok : goal.returns-in-Ok
+returns-in-Ok g c = c.show_play.ensures
+
+pub returns-in-Err : goal.returns-in-Err
+returns-in-Err g c = wanting _ _ _ (cut_unbegun c.args.scene _ (rw c.scene.view_is at c.scene.invariant))

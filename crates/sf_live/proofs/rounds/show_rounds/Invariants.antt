@@ -10,11 +10,11 @@ use Rattle.sf_live.proofs.rounds.show_rounds.Given as goal
 abbrev pub invariant-actions : goal.invariant-actions
 invariant-actions g l =
     ((scene : SceneValue) (start : Option (List ℕ))
-    → HasShown g.B.TableName.table scene l.shows.plan l.shows.timelines.items start (g.K.Sink.taken l.initial.sink) l.initial.screens l.initial.player
-    → HasShown g.B.TableName.table scene l.shows.plan l.shows.timelines.items start (g.K.Sink.taken l.sink) l.screens l.player)
-    × HavePassed l.player.play.actor_set.actors l.gates
+    → HasShown g.B.TableName.table scene l.shows.plan l.shows.timelines.items start (g.K.Sink.taken l.initial.sink) l.initial.screens l.initial.run.player
+    → HasShown g.B.TableName.table scene l.shows.plan l.shows.timelines.items start (g.K.Sink.taken l.sink) l.screens l.run.player)
+    × HavePassed l.run.player.play.actor_set.actors l.run.gates.items
     × (g.K.Sink.faults l.initial.sink ≤ g.K.Sink.faults l.sink)
-    × ((home_in l.player.play).tells ≡ (home_in l.initial.player.play).tells)
+    × ((home_in l.run.player.play).tells ≡ (home_in l.initial.run.player.play).tells)
 
 abbrev pub decreases-actions : goal.decreases-actions
-decreases-actions g l = fuel_of l.player
+decreases-actions g l = fuel_of l.run.player

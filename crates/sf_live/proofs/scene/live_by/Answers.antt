@@ -7,17 +7,17 @@ use Rattle.sf_live.proofs.scene.live_by.Goals as goal
 pub returns-in-Err : goal.returns-in-Err
 returns-in-Err g c = record {
   ok = tt;
-  err = cut_unmade c.args.tells c.args.scene _ _ (c.in-Err.ensures.err (opening c.args.scene) c.opening.ensures);
+  err = cut_unmade c.args.tells c.args.scene _ _ (c.in-Err.ensures.wrote (opening c.args.scene) c.opening.ensures).err;
   later = c.write_made.ensures.later;
   failed = search rules;
 }
 
 pub run_scene-requires-clause-begun : goal.run_scene-requires-clause-begun
-run_scene-requires-clause-begun g c κs within = (g.K.Sink.taken c.args.sink.now, c.in-Ok.ensures.ok (opening c.args.scene) c.opening.ensures)
+run_scene-requires-clause-begun g c κs within = (g.K.Sink.taken c.args.sink.now, (c.in-Ok.ensures.wrote (opening c.args.scene) c.opening.ensures).ok)
 
 pub returns : goal.returns
 returns g c =
-    let wrote = c.in-Ok.ensures.ok (opening c.args.scene) c.opening.ensures in
+    let wrote = (c.in-Ok.ensures.wrote (opening c.args.scene) c.opening.ensures).ok in
     let ended = c.run_scene.ensures (g.K.Sink.taken c.args.sink.now) wrote in
     let before = c.write_made.ensures.later in
     let later = ended.later in
