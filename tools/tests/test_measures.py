@@ -6,12 +6,12 @@ from surbeldoi.build import measures
 
 # None of these numbers may rise. Whoever lowers one puts it down here.
 MOST = {
-    "functions with more than 6 parameters": 5,
+    "functions with more than 6 parameters": 2,
     "parameters of the function that has most": 7,
-    "clauses of more than 160 letters": 79,
+    "clauses of more than 160 letters": 63,
     "clauses of more than 200 letters": 2,
     "clauses that say `1 ≤ workers`": 6,
-    "frames from main to the kernel that blends": 29,
+    "frames from main to the kernel that blends": 25,
 }
 SOURCE = """
 //! fn in_a_comment(a: u8, b: u8)

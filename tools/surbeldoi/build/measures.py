@@ -29,7 +29,7 @@ OF_WORKERS = re.compile(r"1 ≤ (?:\w+\.)?workers\b")
 FRAMES = """
 sf_main: main run_over_streams
 sf_app: run follow show_run play
-sf_play_write: show_play write_play show_actions show_action write_action show_vsync compose_views compose_output compose_on
+sf_play_write: show_play write_play write_action show_vsync compose_views
 sf_output_screen: show compose_over
 sf_compose: compose_by compose_band compose_rect compose_slice paint_shown paint_layer paint_crop paint_pixels
 sf_rows: blend_row blend_row_blocks row_blocks four_pixels
