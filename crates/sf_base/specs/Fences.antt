@@ -1,9 +1,10 @@
 -- Fences: sets of points (timeline, value). Of each timeline the greatest value stands for all
 -- its points, at the index before the timeline's number; 0 stands for none, since a point of
 -- value 0 is signalled from the start and changes nothing.
-use Rattle.std.specs.Prelude.{ℕ, ◌+◌, ◌-◌, ◌≤◌, ◌↔◌, max, nat_le, if◌then◌else◌}
-use Rattle.std.specs.Prelude.{List, [], ◌∷◌, replicate, slice_index, slice_set, Option, None, Some}
+use Rattle.std.specs.Prelude.{◌≡◌, ℕ, ◌+◌, ◌-◌, ◌≤◌, ◌↔◌, max, nat_le, if◌then◌else◌}
+use Rattle.std.specs.Prelude.{List, [], ◌∷◌, replicate, slice_index, slice_set, MatchOption, Option, None, Some}
 use Rattle.sf_base.specs.declared.fences.Seen.{Seen}
+use Rattle.sf_base.specs.declared.ids.TimelineId.{TimelineId}
 
 -- what contracts see of a fence: the value of each timeline
 pub record Fence : Type 0 where
@@ -56,3 +57,8 @@ open_from t (v ∷ vs) (s ∷ ss) = if nat_le v s then open_from (t + 1) vs ss e
 -- the point of the lowest timeline that is not signalled
 unfoldable pub first_open_of : Fence → Seen → Option (ℕ × ℕ)
 first_open_of fence seen = open_from 1 fence.values seen.values
+
+-- this is that point, or none where there is no such point
+abbrev pub IsFirstOpen : Fence → Seen → Option (TimelineId × ℕ) → Type 0
+IsFirstOpen fence seen point =
+    MatchOption point (first_open_of fence seen ≡ None) (λ first. first_open_of fence seen ≡ Some ((first.0).0, first.1))

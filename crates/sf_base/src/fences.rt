@@ -1,7 +1,7 @@
 //! Fences, as sets of points of timelines, and what was seen of the timelines: a step waits by
 //! these, and a vsync is decided by them.
-ghost use Rattle.std.specs.Prelude.{◌≡◌, ◌≤◌, ◌<◌, ◌↔◌, IsNone, IsTrue, MatchOption, None, Some, OnOk, OnErr, IfOk, length, max, slice_set, ◌-◌};
-ghost use Rattle.sf_base.specs.Fences.{IsSignalled, SignalledTogether, SignalledWith, fence_from, first_open_of, greater_of_each, merged, no_points, value_of, with_point};
+ghost use Rattle.std.specs.Prelude.{◌≡◌, ◌≤◌, ◌<◌, ◌↔◌, IsNone, IsTrue, OnOk, OnErr, IfOk, length, max, slice_set, ◌-◌};
+ghost use Rattle.sf_base.specs.Fences.{IsFirstOpen, IsSignalled, SignalledTogether, SignalledWith, fence_from, greater_of_each, merged, no_points, value_of, with_point};
 
 use crate::{NoMemory, TimelineId};
 use std::alloc::Global;
@@ -43,8 +43,7 @@ fn raise_all(points: &mut Points, other: &Points)
 /// The lowest timeline whose value is above what was observed, with its value.
 fn first_above(points: &Points, seen: &Seen) -> Option<(TimelineId, u64)>
     ensures signalled { IsNone result ↔ IsSignalled (fence_from points.now.values) seen.now }
-    ensures lowest { MatchOption result (first_open_of (fence_from points.now.values) seen.now ≡ None)
-        (λ point. first_open_of (fence_from points.now.values) seen.now ≡ Some ((point.0).0, point.1)) }
+    ensures lowest { IsFirstOpen (fence_from points.now.values) seen.now result }
 {
     for index in 0..64 {
         if points.values[index] > seen.values[index] {
@@ -152,7 +151,7 @@ impl Fence {
     /// value that it waits for. None exactly where the fence is signalled.
     pub fn first_open(&self, seen: &Seen) -> Option<(TimelineId, u64)>
         ensures signalled { IsNone result ↔ IsSignalled self.now seen.now }
-        ensures lowest { MatchOption result (first_open_of self.now seen.now ≡ None) (λ point. first_open_of self.now seen.now ≡ Some ((point.0).0, point.1)) }
+        ensures lowest { IsFirstOpen self.now seen.now result }
     {
         match &self.points {
             Some(points) => first_above(points.as_ref(), seen),

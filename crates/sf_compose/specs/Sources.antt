@@ -3,7 +3,7 @@ use Rattle.std.specs.Prelude.{◌≡◌, ℕ, List, Some, pos}
 use Rattle.std.specs.List.{AllZip, slice_get}
 use Rattle.sf_base.specs.Geometry.{LiesWithin}
 use Rattle.sf_compose.specs.Frames.{frame_bytes}
-use Rattle.sf_compose.specs.Readings.{read_image}
+use Rattle.sf_compose.specs.Readings.{AreReadable, read_image}
 use Rattle.sf_damage.specs.sf_layer.declared.shown.Shown.{Shown}
 use Rattle.sf_damage.specs.sf_picture.declared.picture.Picture.{Picture}
 use Rattle.sf_damage.specs.sf_view.declared.content.Content.{Content}
@@ -28,6 +28,16 @@ pub record HasSources (picture : ℕ → Picture) (view : ViewOf) (contents : Li
 -- what is read of the contents for a view is its image
 abbrev pub ReadsImage : (ℕ → Picture) → ViewOf → List Picture → List ℕ → Type 0
 ReadsImage picture view contents sources = (x y : ℕ) → read_image contents view sources x y ≡ view_image picture view (pos x) (pos y)
+
+-- where the contents hold the pictures of a view's layers, whatever pictures the numbers stand for, the layers can be read
+abbrev pub SourcesAreReadable : Type 0
+SourcesAreReadable = (picture : ℕ → Picture) (view : ViewOf) (contents : List Picture) (sources : List ℕ) →
+    HasSources picture view contents sources → AreReadable contents view.drawn sources
+
+-- and what is read is the image of the view
+abbrev pub ReadingGivesTheImage : Type 0
+ReadingGivesTheImage = (picture : ℕ → Picture) (view : ViewOf) (contents : List Picture) (sources : List ℕ) →
+    HasSources picture view contents sources → ReadsImage picture view contents sources
 
 -- these are the bytes of the view's image, for each assignment of pictures that gives the contents to its layers
 abbrev pub IsFrameOf : ViewOf → List Picture → List ℕ → List ℕ → Type 0

@@ -1,9 +1,9 @@
 //! How an area is begun: from the topmost layer that hides all below it, or on black.
 ghost use Rattle.std.specs.Prelude.{◌≡◌, ◌≤◌, length, map};
+ghost use Rattle.sf_compose.specs.Composed.{AreReadableIn};
 ghost use Rattle.sf_compose.specs.inner.Bands.{HasRows, IsInBand};
 ghost use Rattle.sf_compose.specs.inner.Begun.{AreaIsBegun, Spares};
 ghost use Rattle.sf_compose.specs.inner.Painting.{is_in_area};
-ghost use Rattle.sf_compose.specs.Readings.{AreReadable};
 
 use crate::area::Area;
 use crate::band::Band;
@@ -23,7 +23,7 @@ pub fn begin<C: Pixels>(
     area: Area,
     frame: &mut [u8],
 ) -> usize
-    requires readable { AreReadable (map C.picture composition.now.contents.now) composition.now.view.now.drawn composition.now.sources.now }
+    requires readable { AreReadableIn C.picture composition.now }
     requires within { IsInBand band area }
     requires room { HasRows band frame.old }
     ensures few { result ≤ length composition.now.view.now.drawn }

@@ -1,6 +1,7 @@
 //! Whether layers hide together all that lies below an area, side by side or one over another.
 ghost use Rattle.std.specs.Prelude.{◌≡◌, ◌<◌, ◌≤◌, length, map, true, IfSome, IsTrue};
-ghost use Rattle.sf_compose.specs.Readings.{AreReadable, IsReadable};
+ghost use Rattle.sf_compose.specs.Composed.{AreReadableIn};
+ghost use Rattle.sf_compose.specs.Readings.{IsReadable};
 ghost use Rattle.sf_compose.specs.inner.Cover.{HidesBelow, HidesGround, rows_between};
 ghost use Rattle.sf_compose.specs.inner.Painting.{is_in_area};
 ghost use Rattle.sf_compose.specs.inner.Seen.{IsPaintable};
@@ -40,7 +41,7 @@ fn hidden_around<C: Pixels>(
     x: u32,
     y: u32,
 ) -> Option<Area>
-    requires readable { AreReadable (map C.picture composition.now.contents.now) composition.now.view.now.drawn composition.now.sources.now }
+    requires readable { AreReadableIn C.picture composition.now }
     ensures right { IfSome result (λ part. part.right ≤ area.right) }
     ensures bottom { IfSome result (λ part. part.bottom ≤ area.bottom) }
     ensures here { IfSome result (λ part. is_in_area part x y ≡ true) }
@@ -71,7 +72,7 @@ fn hidden_around<C: Pixels>(
 /// Before which row layers hide all points of an area from a row on: this one where they do not hide
 /// all of it.
 fn hidden_until<C: Pixels>(composition: &Composition<C>, area: Area, y: u32) -> u32
-    requires readable { AreReadable (map C.picture composition.now.contents.now) composition.now.view.now.drawn composition.now.sources.now }
+    requires readable { AreReadableIn C.picture composition.now }
     requires within { y < area.bottom }
     ensures more { y ≤ result }
     ensures within { result ≤ area.bottom }
@@ -98,7 +99,7 @@ fn is_worth_looking<C>(composition: &Composition<C>, area: Area) -> bool {
 /// Whether layers hide together all that lies below an area. Where that would take long to find, the
 /// answer is no.
 pub fn is_hidden<C: Pixels>(composition: &Composition<C>, area: Area) -> bool
-    requires readable { AreReadable (map C.picture composition.now.contents.now) composition.now.view.now.drawn composition.now.sources.now }
+    requires readable { AreReadableIn C.picture composition.now }
     ensures { IsTrue result →
         HidesGround (is_in_area area) (map C.picture composition.now.contents.now) composition.now.view.now.drawn composition.now.sources.now }
 {

@@ -1,19 +1,13 @@
 //! Laws about composed frames, called for their clauses alone: in whatever parts a view is
 //! composed, its frame is one.
-ghost use Rattle.std.specs.Prelude.{ℕ, List};
-ghost use Rattle.sf_damage.specs.sf_picture.declared.picture.Picture.{Picture};
-ghost use Rattle.sf_damage.specs.sf_view.Views.{ViewOf};
 ghost use Rattle.sf_compose.specs.Again.{ComposingAgainIsWhole, ComposingHasOneFrame};
-ghost use Rattle.sf_compose.specs.Readings.{AreReadable};
-ghost use Rattle.sf_compose.specs.Sources.{HasSources, ReadsImage};
+ghost use Rattle.sf_compose.specs.Sources.{ReadingGivesTheImage, SourcesAreReadable};
 
 /// Where the contents hold the pictures that a view's layers show, whatever pictures the numbers
 /// stand for, they can be read, and what is read is the painter's image of the view.
 pub fn what_is_read_is_the_image()
-    ensures readable { (picture : ℕ → Picture) (view : ViewOf) (contents : List Picture) (sources : List ℕ) →
-        HasSources picture view contents sources → AreReadable contents view.drawn sources }
-    ensures image { (picture : ℕ → Picture) (view : ViewOf) (contents : List Picture) (sources : List ℕ) →
-        HasSources picture view contents sources → ReadsImage picture view contents sources }
+    ensures readable { SourcesAreReadable }
+    ensures image { ReadingGivesTheImage }
 {}
 
 /// Where the points at which two views differ were composed anew over the frame of the old one, and

@@ -2,12 +2,13 @@
 ghost use Rattle.std.specs.Prelude.{◌≡◌, ◌≤◌, ℕ, map, pos, true, IsTrue, ◌&&◌};
 ghost use Rattle.sf_base.specs.Geometry.{is_within, LiesWithin};
 ghost use Rattle.sf_base.specs.Paint.{painted};
-ghost use Rattle.sf_compose.specs.Readings.{IsReadable, over_layer};
+ghost use Rattle.sf_compose.specs.Composed.{over_sourced};
+ghost use Rattle.sf_compose.specs.Readings.{IsReadable};
 ghost use Rattle.sf_compose.specs.inner.Bands.{HasRows, IsInBand};
 ghost use Rattle.sf_compose.specs.inner.Begun.{Spares};
 ghost use Rattle.sf_compose.specs.inner.Crops.{crop_of, crop_pixel, over_crop};
 ghost use Rattle.sf_compose.specs.inner.Orientations.{oriented_of};
-ghost use Rattle.sf_compose.specs.inner.Painting.{is_in_area, PaintsAnew, PaintsArea};
+ghost use Rattle.sf_compose.specs.inner.Painting.{at_full_alpha, is_in_area, PaintsAnew, PaintsArea};
 ghost use Rattle.sf_compose.specs.inner.Seen.{IsPaintable};
 ghost use Rattle.sf_damage.specs.sf_view.Contents.{source_of};
 
@@ -86,7 +87,7 @@ fn copy_crop(picture: &Painted, crop: Crop, frame: &mut [u8], band: Band, area: 
     requires within { IsInBand band area }
     requires room { HasRows band frame.old }
     ensures spared { Spares band.width band.top (is_in_area area) frame.old frame.new }
-    ensures copied { IsTrue result → PaintsAnew band area (λ x y under. painted under (crop_pixel picture.now crop x y) 255) frame.old frame.new }
+    ensures copied { IsTrue result → PaintsAnew band area (at_full_alpha (crop_pixel picture.now crop)) frame.old frame.new }
 {
     if area.left >= area.right || area.top >= area.bottom {
         return false;
@@ -148,7 +149,7 @@ pub fn paint_layer<C: Pixels>(layer: &SourcedLayer<C>, frame: &mut [u8], band: B
     requires paintable { IsPaintable layer.now.drawn.now }
     requires within { IsInBand band area }
     requires room { HasRows band frame.old }
-    ensures { PaintsArea band area (over_layer (map C.picture layer.now.contents.now) layer.now.drawn.now layer.now.source) frame.old frame.new }
+    ensures { PaintsArea band area (over_sourced C.picture layer.now) frame.old frame.new }
 {
     let drawn = layer.drawn;
     let area = cut(area, &drawn.clip);
@@ -181,7 +182,7 @@ pub fn copy_layer<C: Pixels>(
     requires within { IsInBand band area }
     requires room { HasRows band frame.old }
     ensures spared { Spares band.width band.top (is_in_area area) frame.old frame.new }
-    ensures copied { IsTrue result → PaintsAnew band area (over_layer (map C.picture layer.now.contents.now) layer.now.drawn.now layer.now.source) frame.old frame.new }
+    ensures copied { IsTrue result → PaintsAnew band area (over_sourced C.picture layer.now) frame.old frame.new }
 {
     let drawn = layer.drawn;
     if !may_hide(drawn, area) {

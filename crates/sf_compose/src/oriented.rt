@@ -2,11 +2,10 @@
 ghost use Rattle.std.specs.Prelude.{◌≡◌, ◌+◌, ◌-◌, ◌*◌, ◌<◌, ◌≤◌, ℕ, length, pos, true, IsTrue, ◌≤ℤ◌, ◌+ℤ◌, neg_ℤ};
 ghost use Rattle.sf_base.specs.Bytes.{pixel_in};
 ghost use Rattle.sf_base.specs.Geometry.{covers, is_within, LiesWithin};
-ghost use Rattle.sf_base.specs.Paint.{painted};
 ghost use Rattle.sf_compose.specs.inner.Bands.{HasRows, IsInBand};
 ghost use Rattle.sf_compose.specs.inner.Begun.{Spares};
 ghost use Rattle.sf_compose.specs.inner.Orientations.{along, is_back_across, is_back_down, oriented_number, oriented_pixel, over_oriented, point_shown, step_of};
-ghost use Rattle.sf_compose.specs.inner.Painting.{is_in_area, PaintsAnew, PaintsArea, PaintsSpan, PaintsSpanAnew};
+ghost use Rattle.sf_compose.specs.inner.Painting.{at_full_alpha, is_in_area, PaintsAnew, PaintsArea, PaintsRow, PaintsRowAnew, PaintsSpan};
 ghost use Rattle.sf_damage.specs.sf_picture.Pixels.{HasSize};
 ghost use Rattle.sf_damage.specs.sf_view.Boxes.{box_of, is_sideways};
 
@@ -176,7 +175,7 @@ fn paint_oriented_row(
     requires inside { (x : ℕ) → row.left ≤ x → x < row.right → covers (box_of oriented.crop oriented.orient oriented.place) (pos x) (pos row.y) ≡ true }
     requires few { 4 * (row.right - row.left) ≤ length picked.old }
     requires room { 4 * (row.start + row.right) ≤ length frame.old }
-    ensures { PaintsSpan frame.old frame.new (row.start + row.left) (row.start + row.right) (λ i. over_oriented picture.now oriented (i - row.start) row.y) }
+    ensures { PaintsRow row (over_oriented picture.now oriented) frame.old frame.new }
 {
     let pixels = &mut picked[..4 * (row.right - row.left) as usize];
     pick_oriented(picture, oriented, row.y, row.left, row.right, pixels);
@@ -206,8 +205,7 @@ fn copy_oriented_row(
     requires few { 4 * (row.right - row.left) ≤ length picked.old }
     requires room { 4 * (row.start + row.right) ≤ length frame.old }
     ensures touched { PaintsSpan frame.old frame.new (row.start + row.left) (row.start + row.right) (λ i under. pixel_in frame.new i) }
-    ensures copied { IsTrue result → PaintsSpanAnew frame.old frame.new (row.start + row.left) (row.start + row.right)
-        (λ i under. painted under (oriented_pixel picture.now oriented (i - row.start) row.y) 255) }
+    ensures copied { IsTrue result → PaintsRowAnew row (at_full_alpha (oriented_pixel picture.now oriented)) frame.old frame.new }
 {
     let pixels = &mut picked[..4 * (row.right - row.left) as usize];
     pick_oriented(picture, oriented, row.y, row.left, row.right, pixels);
@@ -264,7 +262,7 @@ fn copy_oriented_rows(
     requires within { IsInBand band area }
     requires room { HasRows band frame.old }
     ensures spared { Spares band.width band.top (is_in_area area) frame.old frame.new }
-    ensures copied { IsTrue result → PaintsAnew band area (λ x y under. painted under (oriented_pixel picture.now oriented x y) 255) frame.old frame.new }
+    ensures copied { IsTrue result → PaintsAnew band area (at_full_alpha (oriented_pixel picture.now oriented)) frame.old frame.new }
 {
     if area.left >= area.right || area.top >= area.bottom {
         return false;
@@ -361,7 +359,7 @@ pub fn copy_oriented(
     requires within { IsInBand band area }
     requires room { HasRows band frame.old }
     ensures spared { Spares band.width band.top (is_in_area area) frame.old frame.new }
-    ensures copied { IsTrue result → PaintsAnew band area (λ x y under. painted under (oriented_pixel picture.now oriented x y) 255) frame.old frame.new }
+    ensures copied { IsTrue result → PaintsAnew band area (at_full_alpha (oriented_pixel picture.now oriented)) frame.old frame.new }
 {
     if area.left >= area.right || area.top >= area.bottom {
         return false;

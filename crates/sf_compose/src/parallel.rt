@@ -1,7 +1,7 @@
 //! Composes a part of a frame in as many threads as are worth their start: what a screen calls for
 //! each image.
 ghost use Rattle.std.specs.Prelude.{◌≡◌, ◌*◌, ◌≤◌, length, map, IsOk, OnErr, OnOk};
-ghost use Rattle.sf_compose.specs.Composed.{AreComposable, AreShownIn};
+ghost use Rattle.sf_compose.specs.Composed.{AreReadableIn, AreShownIn, image_of, IsComposable};
 ghost use Rattle.sf_compose.specs.Frames.{KeepsRest, ShowsPart};
 ghost use Rattle.sf_compose.specs.Readings.{AreReadable, read_image};
 ghost use Rattle.sf_compose.specs.inner.Bands.{HasRows, is_in, RepaintsBand};
@@ -81,12 +81,11 @@ pub fn compose_by<R: Threads + Sync, C: Pixels + Sync>(
 ) -> Result<(), NoMemory>
     requires some { 1 ≤ workers }
     requires few { workers ≤ 16 }
-    requires readable { AreReadable (map C.picture composition.now.contents.now) composition.now.view.now.drawn composition.now.sources.now }
+    requires readable { AreReadableIn C.picture composition.now }
     requires visible { AreShownIn part.now composition.now.view.now.drawn composition.now.shows }
     requires room { length frame.old ≡ 4 * (composition.now.view.now.width * composition.now.view.now.height) }
     ensures ok { IsOk result }
-    ensures image { OnOk result (ShowsPart composition.now.view.now part.now
-        (read_image (map C.picture composition.now.contents.now) composition.now.view.now composition.now.sources.now) frame.new) }
+    ensures image { OnOk result (ShowsPart composition.now.view.now part.now (image_of C.picture composition.now) frame.new) }
     ensures err { OnErr result (frame.new ≡ frame.old) }
     ensures rest { KeepsRest composition.now.view.now part.now frame.old frame.new }
 {
@@ -99,10 +98,9 @@ pub fn compose_by<R: Threads + Sync, C: Pixels + Sync>(
     start_each(
         rt,
         &|band: Band, bytes: &mut [u8]|
-            requires { AreComposable (map C.picture composition.now.contents.now) composition.now.view.now.drawn composition.now.sources.now composition.now.shows part.now
-                × HasRows band bytes.now }
-            ensures { RepaintsBand band (is_in part.entry.now)
-                (read_image (map C.picture composition.entry.now.contents.now) composition.entry.now.view.now composition.entry.now.sources.now) bytes.entry.now bytes.exit.now }
+            requires { IsComposable C.picture composition.now part.now × HasRows band bytes.now }
+            ensures { RepaintsBand band (is_in part.entry.now) (image_of C.picture composition.entry.now)
+                bytes.entry.now bytes.exit.now }
         {
             compose_band(composition, part, band, bytes);
         },

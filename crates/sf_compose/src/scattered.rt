@@ -2,7 +2,8 @@
 //! that lie where it shows.
 ghost use Rattle.std.specs.Prelude.{map};
 ghost use Rattle.sf_base.specs.Paint.{painted};
-ghost use Rattle.sf_compose.specs.Readings.{AreReadable, IsReadable, over_black, over_layer, read_image};
+ghost use Rattle.sf_compose.specs.Composed.{AreReadableIn, image_of, layers_over_black, over_sourced};
+ghost use Rattle.sf_compose.specs.Readings.{IsReadable};
 ghost use Rattle.sf_compose.specs.inner.Bands.{HasRows, is_in, IsInBand, RepaintsBand};
 ghost use Rattle.sf_compose.specs.inner.Painting.{is_in_parts, is_met, is_shown, Paints};
 ghost use Rattle.sf_compose.specs.inner.Seen.{ArePaintable, AreSeenAt, IsPaintable};
@@ -33,8 +34,7 @@ fn paint_met<C: Pixels>(
     requires near { IsInBounds shown.now }
     requires within { IsInBand band area }
     requires room { HasRows band frame.old }
-    ensures { Paints band.width band.top (is_met area shown.now part.now)
-        (over_layer (map C.picture layer.now.contents.now) layer.now.drawn.now layer.now.source) frame.old frame.new }
+    ensures { Paints band.width band.top (is_met area shown.now part.now) (over_sourced C.picture layer.now) frame.old frame.new }
 {
     let rects = part.rects();
     let here = cut(area, shown);
@@ -61,8 +61,7 @@ fn paint_shown<C: Pixels>(
     requires paintable { IsPaintable layer.now.drawn.now }
     requires within { IsInBand band area }
     requires room { HasRows band frame.old }
-    ensures { Paints band.width band.top (is_shown area part.now shows.now)
-        (over_layer (map C.picture layer.now.contents.now) layer.now.drawn.now layer.now.source) frame.old frame.new }
+    ensures { Paints band.width band.top (is_shown area part.now shows.now) (over_sourced C.picture layer.now) frame.old frame.new }
 {
     for shown in shows.rects() {
         paint_met(layer, part, shown, frame, band, area);
@@ -89,12 +88,11 @@ fn compose_layers<C: Pixels>(
     band: Band,
     area: Area,
 )
-    requires readable { AreReadable (map C.picture composition.now.contents.now) composition.now.view.now.drawn composition.now.sources.now }
+    requires readable { AreReadableIn C.picture composition.now }
     requires visible { AreSeenAt (is_in_parts area part.now) composition.now.view.now.drawn shows.now }
     requires within { IsInBand band area }
     requires room { HasRows band frame.old }
-    ensures { Paints band.width band.top (is_in_parts area part.now)
-        (over_black (map C.picture composition.now.contents.now) composition.now.view.now.drawn composition.now.sources.now) frame.old frame.new }
+    ensures { Paints band.width band.top (is_in_parts area part.now) (layers_over_black C.picture composition.now) frame.old frame.new }
 {
     let layers = composition.drawn();
     paint_ground(part, frame, band, area);
@@ -119,11 +117,10 @@ pub fn compose_scattered<C: Pixels>(
     band: Band,
     frame: &mut [u8],
 )
-    requires readable { AreReadable (map C.picture composition.now.contents.now) composition.now.view.now.drawn composition.now.sources.now }
+    requires readable { AreReadableIn C.picture composition.now }
     requires visible { AreVisibleIn part.now composition.now.view.now.drawn shows.now }
     requires room { HasRows band frame.old }
-    ensures { RepaintsBand band (is_in part.now)
-        (read_image (map C.picture composition.now.contents.now) composition.now.view.now composition.now.sources.now) frame.old frame.new }
+    ensures { RepaintsBand band (is_in part.now) (image_of C.picture composition.now) frame.old frame.new }
 {
     let area = area_of(band);
     compose_layers(composition, shows, part, frame, band, area);

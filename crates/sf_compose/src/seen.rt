@@ -2,8 +2,7 @@
 //! of it leave to be seen.
 ghost use Rattle.std.specs.Prelude.{◌+◌, ◌<◌, length, map, pos};
 ghost use Rattle.sf_base.specs.Geometry.{covers};
-ghost use Rattle.sf_compose.specs.Composed.{AreShownAt, AreShownIn};
-ghost use Rattle.sf_compose.specs.Readings.{AreReadable, over_black, read_image};
+ghost use Rattle.sf_compose.specs.Composed.{AreReadableIn, AreShownAt, AreShownIn, image_of, layers_over_black};
 ghost use Rattle.sf_compose.specs.inner.Bands.{HasRows, is_in, IsInBand, RepaintsBand};
 ghost use Rattle.sf_compose.specs.inner.Begun.{AreaIsBegun, Spares};
 ghost use Rattle.sf_compose.specs.inner.Painting.{is_in_area, PaintsArea};
@@ -35,7 +34,7 @@ fn paint_shown<C: Pixels>(
     area: Area,
 )
     requires inside { at < length composition.now.view.now.drawn }
-    requires readable { AreReadable (map C.picture composition.now.contents.now) composition.now.view.now.drawn composition.now.sources.now }
+    requires readable { AreReadableIn C.picture composition.now }
     requires visible { AreGivenAt (is_in_area area) composition.now.view.now.drawn composition.now.shows }
     requires within { IsInBand band area }
     requires room { HasRows band frame.old }
@@ -67,11 +66,11 @@ fn paint_shown<C: Pixels>(
 
 /// Composes an area, layer after layer.
 fn compose_slice<C: Pixels>(composition: &Composition<C>, band: Band, area: Area, frame: &mut [u8])
-    requires readable { AreReadable (map C.picture composition.now.contents.now) composition.now.view.now.drawn composition.now.sources.now }
+    requires readable { AreReadableIn C.picture composition.now }
     requires visible { AreGivenAt (is_in_area area) composition.now.view.now.drawn composition.now.shows }
     requires within { IsInBand band area }
     requires room { HasRows band frame.old }
-    ensures { PaintsArea band area (over_black (map C.picture composition.now.contents.now) composition.now.view.now.drawn composition.now.sources.now) frame.old frame.new }
+    ensures { PaintsArea band area (layers_over_black C.picture composition.now) frame.old frame.new }
 {
     let layers = composition.drawn();
     let mut at = begin(composition, band, area, frame);
@@ -88,11 +87,10 @@ pub fn compose_rect<C: Pixels>(
     band: Band,
     frame: &mut [u8],
 )
-    requires readable { AreReadable (map C.picture composition.now.contents.now) composition.now.view.now.drawn composition.now.sources.now }
+    requires readable { AreReadableIn C.picture composition.now }
     requires visible { AreShownAt (covers rect.now) composition.now.view.now.drawn composition.now.shows }
     requires room { HasRows band frame.old }
-    ensures { RepaintsBand band (λ x y. covers rect.now (pos x) (pos y))
-        (read_image (map C.picture composition.now.contents.now) composition.now.view.now composition.now.sources.now) frame.old frame.new }
+    ensures { RepaintsBand band (λ x y. covers rect.now (pos x) (pos y)) (image_of C.picture composition.now) frame.old frame.new }
 {
     let area = cut(area_of(band), rect);
     if area.left >= area.right || area.top >= area.bottom {
@@ -114,11 +112,10 @@ pub fn compose_band<C: Pixels>(
     band: Band,
     frame: &mut [u8],
 )
-    requires readable { AreReadable (map C.picture composition.now.contents.now) composition.now.view.now.drawn composition.now.sources.now }
+    requires readable { AreReadableIn C.picture composition.now }
     requires visible { AreShownIn part.now composition.now.view.now.drawn composition.now.shows }
     requires room { HasRows band frame.old }
-    ensures { RepaintsBand band (is_in part.now)
-        (read_image (map C.picture composition.now.contents.now) composition.now.view.now composition.now.sources.now) frame.old frame.new }
+    ensures { RepaintsBand band (is_in part.now) (image_of C.picture composition.now) frame.old frame.new }
 {
     if let Some(shows) = composition.shows {
         if part.rects().len() > MANY && shows.len() > MANY {

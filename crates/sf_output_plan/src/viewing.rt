@@ -1,7 +1,7 @@
 //! From the layer tree behind a vsync to the views that are due: of each display, of each captured
 //! layer that is there, and what hit tests answer. Composing begins with these views.
 ghost use Rattle.std.specs.List.{All, flat_map};
-ghost use Rattle.std.specs.Prelude.{◌≡◌, ◌≤◌, ℕ, [], IfOk, List, length, map, true};
+ghost use Rattle.std.specs.Prelude.{◌≡◌, ◌≤◌, [], IfOk, List, length, map, true};
 ghost use Rattle.sf_display.specs.sf_layer.declared.layer.Layer.{Layer as LayerOf};
 ghost use Rattle.sf_output_plan.specs.Due.{AreShown, IsFrameDue, IsPlan, SameOrders, ShowsAll, ShowsDue, capture_due, display_due, frame_due, hit_due, hit_number, others_due};
 ghost use Rattle.sf_output_plan.specs.declared.plan.CapturePlan.{CapturePlan as CaptureOf};
@@ -85,8 +85,8 @@ fn captures(
 
 /// The number of the layer in front at a point of a view, 0 for none.
 fn number_at(view: &View, x: i32, y: i32) -> u32
-    ensures { (tree : List LayerOf) (stacks : List (ℕ × ℕ)) (width height : ℕ) → ViewsInOrder tree (order_on tree stacks 0) width height view.now
-        → result ≡ hit_number (hit_of tree stacks width height x y) }
+    ensures { (plan : PlanOf) (tree : List LayerOf) → ShowsDue (frame_due plan tree) view.now
+        → result ≡ hit_number (hit_of tree plan.stacks plan.width plan.height x y) }
 {
     match hit(view, x, y) {
         Some(id) => id.0,

@@ -22,14 +22,16 @@ abbrev pub relative_passes : List Layer → (Layer → Bool) → Option LayerId 
 relative_passes tree test None = true
 relative_passes tree test (Some id) = passes test (layer_of tree id)
 
+-- a layer shows, where a test says which other layers do: it is not hidden, its parent is the root or passes, and so does the layer
+-- that it is relative to, if there is one
+abbrev pub shows_by : List Layer → (Layer → Bool) → Layer → Bool
+shows_by tree test layer = not layer.hidden && (parent_passes tree test layer.parent && relative_passes tree test layer.relative)
+
 -- a layer shows where it is not hidden, its parent is the root or shows, and the layer that it is relative to,
 -- if any, shows; steps to these end before there are more than the tree has layers
 abbrev pub shows_within : List Layer → ℕ → Layer → Bool
 shows_within tree zero layer = false
-shows_within tree (suc steps) layer =
-    not layer.hidden
-    && (parent_passes tree (shows_within tree steps) layer.parent
-    && relative_passes tree (shows_within tree steps) layer.relative)
+shows_within tree (suc steps) layer = shows_by tree (shows_within tree steps) layer
 
 -- a layer shows: it is not hidden, and what it hangs from shows, and what it is relative to
 unfoldable pub shows : List Layer → Layer → Bool

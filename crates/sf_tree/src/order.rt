@@ -1,12 +1,12 @@
 //! The order in which layers are drawn, from the back: what a view of the whole tree goes by.
-ghost use Rattle.std.specs.Prelude.{◌≡◌, ◌<◌, ◌++◌, ◌∷◌, [], List, filter, slice_index_or, slice_set, length, map, IfOk, IfSome, OnOk, slice_get};
+ghost use Rattle.std.specs.Prelude.{◌≡◌, ◌<◌, ◌++◌, ◌∷◌, [], List, slice_index_or, slice_set, length, map, IfOk, IfSome, OnOk, slice_get};
 ghost use Rattle.std.specs.BTreeMap.{keys};
-ghost use Rattle.std.specs.List.{All, flat_map};
+ghost use Rattle.std.specs.List.{All};
 ghost use Rattle.sf_layer.specs.declared.layer.Layer.{Layer as LayerValue};
 ghost use Rattle.sf_layer.specs.declared.parent.Parent.TheVariants as parent;
 ghost use Rattle.sf_tree.specs.DrawOrder.{draw, draw_order, draw_parent, drawn_with, is_behind};
 ghost use Rattle.sf_tree.specs.Kept.{HasNoCycle, IsDistinct, IsTied};
-ghost use Rattle.sf_tree.specs.inner.Known.{AtPlaces, is_on_side, IsBelow, IsSortedBelow, showing, SortsOneMore, with_place};
+ghost use Rattle.sf_tree.specs.inner.Known.{AtPlaces, drawn_on_side, is_on_side, IsBelow, IsSortedBelow, lists_of, showing, SortsOneMore, with_place};
 ghost use Rattle.sf_tree.specs.Showing.{shows};
 
 use crate::layers::Layers;
@@ -98,9 +98,7 @@ impl Below {
     fn add(&mut self, layers: &Layers, place: usize) -> Result<(), NoMemory>
         requires inside { place < length layers.now }
         requires size { length self.old.lists.items ≡ length layers.now }
-        ensures { OnOk result (SortsOneMore layers.now place
-            self.old.roots.items (map (λ list. list.items) self.old.lists.items)
-            self.new.roots.items (map (λ list. list.items) self.new.lists.items)) }
+        ensures { OnOk result (SortsOneMore layers.now place self.old self.new) }
     {
         match draw_parent(&layers.at(place)) {
             Parent::Root => {
@@ -119,8 +117,7 @@ impl Below {
     fn push(&mut self, with: usize, place: usize) -> Result<(), NoMemory>
         requires { with < length self.old.lists.items }
         ensures roots { self.new.roots.items ≡ self.old.roots.items }
-        ensures lists { OnOk result (map (λ list. list.items) self.new.lists.items
-            ≡ with_place (map (λ list. list.items) self.old.lists.items) with place) }
+        ensures lists { OnOk result (lists_of self.new ≡ with_place (lists_of self.old) with place) }
     {
         let list = &mut self.lists[with];
         list.push(place)?;
@@ -141,7 +138,7 @@ fn draw_parent(layer: &Layer) -> Parent
 /// The layers at these places, by what they are drawn with.
 fn sorted_below(alloc: Global, layers: &Layers, places: &[usize]) -> Result<Below, NoMemory>
     requires { AtPlaces layers.now places.now (showing layers.now) }
-    ensures { IfOk result (λ below. IsSortedBelow layers.now (showing layers.now) below.roots.items (map (λ list. list.items) below.lists.items)) }
+    ensures { IfOk result (λ below. IsSortedBelow layers.now (showing layers.now) below.roots.items (lists_of below)) }
 {
     let mut below = Below::new(alloc, layers.len())?;
     for place in places {
@@ -195,8 +192,7 @@ fn draw_side(
     requires lists { IsBelow layers.now (showing layers.now) (map (λ list. list.items) lists.now) }
     requires places { (list : List LayerValue) × AtPlaces layers.now places.now list }
     ensures { OnOk result ((list : List LayerValue) → AtPlaces layers.now places.now list →
-        order.new.items ≡ order.old.items
-        ++ flat_map (draw (showing layers.now) steps) (filter (is_on_side behind) list)) }
+        order.new.items ≡ order.old.items ++ drawn_on_side layers.now steps behind list) }
 {
     for place in places {
         if !is_on_side(&layers.at(*place), behind) {

@@ -1,11 +1,11 @@
 //! Which layers show: those that are not hidden, where what they hang from shows, and what they are
 //! relative to.
-ghost use Rattle.std.specs.Prelude.{◌≡◌, ◌+◌, ◌<◌, ◌&&◌, not, length, map, IfOk, slice_get};
+ghost use Rattle.std.specs.Prelude.{◌≡◌, ◌+◌, ◌<◌, length, map, IfOk, slice_get};
 ghost use Rattle.std.specs.List.{All};
 ghost use Rattle.sf_layer.specs.declared.layer.Layer.{Layer as LayerValue};
 ghost use Rattle.sf_tree.specs.Kept.{HasNoCycle, IsDistinct, IsTied};
 ghost use Rattle.sf_tree.specs.Layers.{layer_of};
-ghost use Rattle.sf_tree.specs.Showing.{parent_passes, passes, relative_passes, shows};
+ghost use Rattle.sf_tree.specs.Showing.{passes, shows, shows_by};
 ghost use Rattle.sf_tree.specs.inner.Known.{IsKnown, Outranks};
 
 use crate::layers::Layers;
@@ -52,8 +52,7 @@ fn show(layers: &Layers, known: &mut [Option<bool>], place: usize, steps: usize)
 fn decide(layers: &Layers, known: &mut [Option<bool>], layer: &Layer, steps: usize) -> bool
     requires known { IsKnown layers.now known.old }
     requires steps { Outranks layers.now layer.now (steps + 1) }
-    ensures shown { result ≡ (not layer.now.hidden && (parent_passes layers.now (shows layers.now) layer.now.parent
-        && relative_passes layers.now (shows layers.now) layer.now.relative)) }
+    ensures shown { result ≡ shows_by layers.now (shows layers.now) layer.now }
     ensures known { IsKnown layers.now known.new }
 {
     if layer.hidden {

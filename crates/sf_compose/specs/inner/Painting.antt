@@ -1,10 +1,12 @@
 -- Painting over a part of a frame: each pixel of the part becomes what is painted over what it was.
 use Rattle.std.specs.Prelude.{◌≡◌, ℕ, ◌+◌, ◌-◌, ◌*◌, ◌<◌, ◌≤◌, Bool, ◌&&◌, if◌then◌else◌, List, length, pos}
 use Rattle.sf_base.specs.Geometry.{covers}
+use Rattle.sf_base.specs.Paint.{painted}
 use Rattle.sf_base.specs.declared.geometry.Rect.{Rect}
 use Rattle.sf_base.specs.declared.pixel.Rgba.{Rgba}
 use Rattle.sf_compose.specs.declared.area.Area.{Area}
 use Rattle.sf_compose.specs.declared.band.Band.{Band}
+use Rattle.sf_compose.specs.declared.spans.RowSpan.{RowSpan}
 use Rattle.sf_compose.specs.Frames.{is_in_box}
 use Rattle.sf_base.specs.Bytes.{pixel_in}
 use Rattle.sf_damage.specs.sf_region.Points.{has}
@@ -37,6 +39,18 @@ PaintsAnew band area paint old new = (below : ℕ → ℕ → Rgba) → Paints b
 -- the same of pixels from a number on and below another
 abbrev pub PaintsSpanAnew : List ℕ → List ℕ → ℕ → ℕ → (ℕ → Rgba → Rgba) → Type 0
 PaintsSpanAnew old new start end paint = (below : ℕ → Rgba) → PaintsSpan old new start end (λ i under. paint i (below i))
+
+-- the points of a row from one on and before another are painted, and no other pixel changed
+abbrev pub PaintsRow : RowSpan → (ℕ → ℕ → Rgba → Rgba) → List ℕ → List ℕ → Type 0
+PaintsRow row paint old new = PaintsSpan old new (row.start + row.left) (row.start + row.right) (λ i. paint (i - row.start) row.y)
+
+-- they are painted as over any pixels
+abbrev pub PaintsRowAnew : RowSpan → (ℕ → ℕ → Rgba → Rgba) → List ℕ → List ℕ → Type 0
+PaintsRowAnew row paint old new = PaintsSpanAnew old new (row.start + row.left) (row.start + row.right) (λ i. paint (i - row.start) row.y)
+
+-- what is painted of these pixels over others, with alpha 255
+abbrev pub at_full_alpha : (ℕ → ℕ → Rgba) → ℕ → ℕ → Rgba → Rgba
+at_full_alpha pixels = λ x y under. painted under (pixels x y) 255
 
 -- the points of an area that lie in rectangles
 abbrev pub is_in_parts : Area → List Rect → ℕ → ℕ → Bool

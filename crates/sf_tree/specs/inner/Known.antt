@@ -1,11 +1,12 @@
 -- What is found out of layers on the way to a draw order.
 use Rattle.std.specs.Prelude.{◌≡◌, ℕ, ◌<◌, ◌≤◌, Bool, List, length, Option, Some, None, slice_index_or}
-use Rattle.std.specs.Prelude.{slice_get, slice_set, ◌∷◌, ◌++◌, [], drop, filter, int_lt, reverse, true, false, not, ℤ}
-use Rattle.std.specs.List.{All, AllZip}
+use Rattle.std.specs.Prelude.{slice_get, slice_set, ◌∷◌, ◌++◌, [], drop, filter, int_lt, map, reverse, true, false, not, ℤ}
+use Rattle.std.specs.List.{All, AllZip, flat_map}
 use Rattle.sf_base.specs.declared.ids.LayerId.{LayerId}
 use Rattle.sf_layer.specs.declared.layer.Layer.{Layer}
 use Rattle.sf_layer.specs.declared.parent.Parent.TheVariants as parent
-use Rattle.sf_tree.specs.DrawOrder.{drawn_with, in_z_order, is_behind}
+use Rattle.sf_tree.specs.declared.order.Below.{Below}
+use Rattle.sf_tree.specs.DrawOrder.{draw, drawn_with, in_z_order, is_behind}
 use Rattle.sf_tree.specs.Kept.{IsRanked}
 use Rattle.sf_tree.specs.Layers.{layer_of}
 use Rattle.sf_tree.specs.Showing.{shows}
@@ -64,11 +65,15 @@ pub record IsSortedBelow (tree layers : List Layer) (roots : List ℕ) (below : 
   pub hang : AtPlaces tree roots (drawn_with parent.Root layers)
   pub lists : IsBelow tree layers below
 
+-- the places of the layers that are drawn with each layer
+abbrev pub lists_of : Below → List (List ℕ)
+lists_of below = map (λ list. list.items) below.lists.items
+
 -- the layer at a place joins those that are sorted
-abbrev pub SortsOneMore : List Layer → ℕ → List ℕ → List (List ℕ) → List ℕ → List (List ℕ) → Type 0
-SortsOneMore tree place roots lists next_roots next_lists =
+abbrev pub SortsOneMore : List Layer → ℕ → Below → Below → Type 0
+SortsOneMore tree place old new =
     (earlier : List Layer) (layer : Layer) → slice_get tree place ≡ Some layer
-    → IsSortedBelow tree earlier roots lists → IsSortedBelow tree (earlier ++ layer ∷ []) next_roots next_lists
+    → IsSortedBelow tree earlier old.roots.items (lists_of old) → IsSortedBelow tree (earlier ++ layer ∷ []) new.roots.items (lists_of new)
 
 -- one more place at the end of a list
 abbrev pub with_place : List (List ℕ) → ℕ → ℕ → List (List ℕ)
@@ -78,3 +83,8 @@ with_place lists with place = slice_set lists with (slice_index_or lists with []
 abbrev pub is_on_side : Bool → Layer → Bool
 is_on_side true layer = is_behind layer
 is_on_side false layer = not (is_behind layer)
+
+-- of these layers those on one side are drawn, each with all that is drawn with it; steps down end before there are more than the
+-- tree has layers
+abbrev pub drawn_on_side : List Layer → ℕ → Bool → List Layer → List LayerId
+drawn_on_side tree steps behind layers = flat_map (draw (showing tree) steps) (filter (is_on_side behind) layers)

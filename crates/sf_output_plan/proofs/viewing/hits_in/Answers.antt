@@ -12,4 +12,4 @@ loop-test-preserved c = λ plan tree shows.
     let across : to_z w32 (of_z w32 test.x) ≡ test.x = search rules in
     let down : to_z w32 (of_z w32 test.y) ≡ test.y = search rules in
     map_more (IsOutput ShowsDue) (hit_due plan tree) c.args.hits.now c.loop-test.test-index _ c.loop-test.views.items c.push.new.self.items _
-    c.loop-test-test.true (c.loop-test.invariant plan tree shows) (refl, sym (rw (across, down) at (c.number_at-layer.ensures tree plan.stacks plan.width plan.height shows))) c.in_ok-push.ensures.items
+    c.loop-test-test.true (c.loop-test.invariant plan tree shows) (refl, sym (rw (across, down) at (c.number_at-layer.ensures plan tree shows))) c.in_ok-push.ensures.items
