@@ -29,7 +29,7 @@ use Rattle.sf_actor.specs.declared.tried.Stepped.TheVariants as stepped
 use Rattle.sf_actor.specs.Asking.{Asked, call_of}
 use Rattle.sf_actor.specs.Desks.{DeskHome, DeskView, WaitsForCall, has_queue, known_of, looks}
 use Rattle.sf_actor.specs.Keeping.{TraceKept}
-use Rattle.sf_actor.specs.Known.{Call, GoesOn, Share, share_of}
+use Rattle.sf_actor.specs.Known.{Call, GoesOn, Known, Share, share_of}
 use Rattle.sf_actor.specs.Holdings.{HoldingsOf, ShowsPictures, plain_of, queue_held, turn_held}
 use Rattle.sf_actor.specs.Points.{detached_fence, waited_fence}
 use Rattle.sf_actor.specs.Rights.{HoldsAcquired, IsOfCall, MadeWith, Turn, WasGivenAt}
@@ -92,9 +92,11 @@ module _ {B : Type 0} where
     pub reached : IsSignalled (past_of actor).shown share.values
     pub permits : ArePermits actor share
 
-  -- what an actor keeps over a share it keeps over another one, too
-  abbrev pub KeepsActor : ActorOf B → Share B → Share B → Type 0
-  KeepsActor actor old new = (pictures : ℕ → Picture) → ActorKept pictures actor old → ActorKept pictures actor new
+  -- what an actor keeps over one state of what is known it keeps over another one, too
+  abbrev pub KeepsActor : ActorOf B → Known B → Known B → Type 0
+  KeepsActor actor old new =
+      (pictures : ℕ → Picture) → ActorKept pictures actor (share_of actor.script.number old)
+      → ActorKept pictures actor (share_of actor.script.number new)
 
   -- the desk has the queue of each token and of each frame of a transaction
   pub record AreThere (home : DeskHome) (parts : HoldingsOf B) : Type 0 where

@@ -15,6 +15,5 @@ pub fn a_trace_keeps_what_it_keeps<B: TableName>()
 /// All that an actor keeps stays true so: beside what its trace keeps also what it has, with its
 /// rights and permits.
 pub fn an_actor_keeps_what_it_keeps<B: TableName>()
-    ensures { (actor : ActorOf B) (old new : Known B) → GoesOn actor.script.number old new
-        → KeepsActor actor (share_of actor.script.number old) (share_of actor.script.number new) }
+    ensures { (actor : ActorOf B) (old new : Known B) → GoesOn actor.script.number old new → KeepsActor actor old new }
 {}

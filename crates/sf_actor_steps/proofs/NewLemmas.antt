@@ -15,9 +15,9 @@ use Rattle.sf_actor.specs.Known.{Call, Share, plain_arrival, share_of, told_by}
 use Rattle.sf_actor.specs.Rights.{BringsGiven, SendsAcquired}
 use Rattle.sf_actor.specs.ScriptTraces.{IsMade, sent_as}
 use Rattle.sf_actor.specs.Traces.{IsAnswered, past_from, places_from}
-use Rattle.sf_actor.specs.Tries.{Keeps, held_in}
+use Rattle.sf_actor.specs.Tries.{ActorOf, Keeps, held_in}
 use Rattle.sf_actor.proofs.SignalledFences.{none_reached}
-use Rattle.sf_actor_steps.specs.Actors.{IsNew, new_actor}
+use Rattle.sf_actor_steps.specs.Actors.{IsNew, IsNewActor, new_actor}
 
 none_some : {A : Type 0} (a : A) → None ≡ Some a → ⊥
 none_some a e = cc
@@ -91,3 +91,8 @@ module _ {B : Type 0} where
           frames = λ number txn there. absurd (new_fills number txn there);
         };
       }
+
+  -- the same by the actor itself
+  pub new_actor_keeps : (pictures : ℕ → Picture) (home : DeskHome) (view : DeskView B) (actor : ActorOf B) → IsNewActor home view actor → Keeps pictures home actor view
+  new_actor_keeps pictures home view actor is =
+      subst (λ (a : ActorOf B). Keeps pictures home a view) (sym is.first) (new_keeps pictures home view actor.script actor.stock is.new)

@@ -52,6 +52,11 @@ module _ {B : Type 0} where
     pub once : (number : ℕ) → stock_at number stock ≤ 1
     pub enough : dequeues_in script.steps ≤ length stock
 
+  -- an actor has done nothing, over a desk that knows no call and no arrival of it, and has enough permits for its script
+  pub record IsNewActor (home : DeskHome) (view : DeskView B) (actor : ActorOf B) : Type 0 where
+    pub first : actor ≡ new_actor actor.script actor.stock
+    pub new : IsNew home view actor.script actor.stock
+
   -- an actor is what contracts see of it, with some trace of as many steps as it has replied to
   pub record IsActor (table : TableId) (actor : Actor B) (of : ActorOf B) : Type 0 where
     pub script : of.script ≡ actor.script

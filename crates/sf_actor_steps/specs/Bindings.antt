@@ -1,5 +1,5 @@
 -- What an actor's names and transaction numbers are bound to, without the rights to pixels.
-use Rattle.std.specs.Prelude.{ℕ, ◌==◌, Bool, not, if◌then◌else◌, [], Option, Some, None, is_some}
+use Rattle.std.specs.Prelude.{◌≡◌, ℕ, ◌==◌, Bool, not, if◌then◌else◌, [], Option, Some, None, is_some}
 use Rattle.sf_actor.specs.sf_picture.declared.picture.Picture.{Picture}
 use Rattle.sf_actor.specs.sf_slots.declared.slot.Held.{Held}
 use Rattle.sf_actor.specs.sf_surface.Tokens.{OwingOf, ReadLeaseOf, WriteLeaseOf}
@@ -23,6 +23,10 @@ owing_of owing held = Owing owing.queue (record { slot = owing.slot; frame = owi
 
 abbrev pub shown_of : ReadLeaseOf → Token
 shown_of lease = Frame lease.queue (frame_of lease).1
+
+-- a name holds this owed drawing, with its buffer
+abbrev pub HoldsOwing : Holdings → ℕ → OwingOf → Type 0
+HoldsOwing holdings name owing = (held : Held) × (name_in holdings name ≡ Some (owing_of owing held))
 
 -- the status of the first test that a step meets which queues: its name holds no lent buffer, or another picture was drawn in it
 abbrev pub queue_refusal : Holdings → ℕ → ℕ → Option ℕ

@@ -1,7 +1,8 @@
 -- What a step does that begins, changes, merges or sends a transaction.
-use Rattle.std.specs.Prelude.{◌≡◌, ◌≢◌, ℕ, true, List, [], ◌∷◌, get_or, slice_set, option_to_list, Option, Some, None}
+use Rattle.std.specs.Prelude.{◌≡◌, ◌≢◌, ℕ, true, List, [], ◌∷◌, get_or, slice_set, option_to_list, Option, Some, None, Result, IfOk}
 use Rattle.std.specs.List.{All}
 use Rattle.sf_base.specs.Fences.{no_points, merged as with_points_of}
+use Rattle.sf_base.specs.declared.memory.NoMemory.{NoMemory}
 use Rattle.sf_actor.specs.sf_surface.declared.call.QCall.TheVariants as call
 use Rattle.sf_actor.specs.sf_surface.declared.call.QReply.{QReply}
 use Rattle.sf_actor.specs.sf_surface.Tokens.{ReadLeaseOf}
@@ -34,6 +35,10 @@ IsThere home buffer = has_queue home buffer.lease.queue.0 ≡ true
 abbrev pub AreThere : DeskHome → Option (Contents ReadLeaseOf) → Type 0
 AreThere home None = Unit {0}
 AreThere home (Some txn) = All (IsThere home) txn.buffers
+
+-- unless memory ran out, the step was done, and did this
+abbrev pub IfDone : Result Tried NoMemory → Type 0 → Type 0
+IfDone result Did = IfOk result (λ came_to. (came_to ≡ tried.Own 0) × Did)
 
 module _ {B : Type 0} where
   -- a number holds this

@@ -140,7 +140,7 @@ impl<B: TableName> Bindings<B> {
     ghost use Rattle.sf_actor.specs.sf_layer.Ranges.{IsOperation};
     ghost use Rattle.sf_actor.specs.sf_txn.Transactions.{empty, set};
     ghost use Rattle.sf_actor.specs.Scripts.{layer_of, op_of};
-    ghost use Rattle.sf_actor_steps.specs.Editing.{AreThere, Edits, HoldsShown, Merges, Shows, TakesTxn, TriesSend, with_txn};
+    ghost use Rattle.sf_actor_steps.specs.Editing.{AreThere, Edits, HoldsShown, IfDone, Merges, Shows, TakesTxn, TriesSend, with_txn};
     ghost use Rattle.sf_actor_steps.specs.declared.tried.Tried.TheVariants as tried;
 
     /// Takes the transaction that a number holds.
@@ -178,12 +178,7 @@ impl<B: TableName> Bindings<B> {
     /// Lets a transaction wait for a frame of a layer.
     pub fn wait_for(&mut self, number: u32, layer: u32, frame: u64) -> Result<Tried, NoMemory>
         requires { is_some (get_or self.old.transactions number None) ≡ true }
-        ensures { IfOk result (λ came_to. (came_to ≡ tried.Own 0) × Edits self.old self.new number (λ txn. record txn {
-          barriers = txn.barriers ++ (
-            layer_of layer,
-            frame,
-          ) ∷ [];
-        })) }
+        ensures { IfDone result (Edits self.old self.new number (λ txn. record txn { barriers = txn.barriers ++ (layer_of layer, frame) ∷ [] })) }
     {
         let mut transaction = self.take_transaction(number);
         transaction.add_barrier(LayerId(layer), frame)?;
@@ -195,7 +190,7 @@ impl<B: TableName> Bindings<B> {
     pub fn set(&mut self, number: u32, layer: u32, change: Change) -> Result<Tried, NoMemory>
         requires there { is_some (get_or self.old.transactions number None) ≡ true }
         requires operation { IsOperation (layer_of layer, op_of change) }
-        ensures { IfOk result (λ came_to. (came_to ≡ tried.Own 0) × Edits self.old self.new number (λ txn. set txn (layer_of layer, op_of change))) }
+        ensures { IfDone result (Edits self.old self.new number (λ txn. set txn (layer_of layer, op_of change))) }
     {
         let mut transaction = self.take_transaction(number);
         transaction.set(LayerId(layer), op_of(change))?;
@@ -217,7 +212,7 @@ impl<B: TableName> Bindings<B> {
         requires shown { HoldsShown (get_or self.old.names name None) }
         requires layer { 1 ≤ layer }
         requires queues { AreThere (D.home desk.old) (get_or self.old.transactions number None) }
-        ensures shows { IfOk result (λ came_to. (came_to ≡ tried.Own 0) × Shows (D.home desk.old) self.old.by.0 step_number number layer name
+        ensures shows { IfDone result (Shows (D.home desk.old) self.old.by.0 step_number number layer name
             self.old self.new (D.view desk.old) (D.view desk.new)) }
         ensures home { D.home desk.new ≡ D.home desk.old }
     {
@@ -249,7 +244,7 @@ impl<B: TableName> Bindings<B> {
         requires apart { other ≢ number }
         requires queues { AreThere (D.home desk.old) (get_or self.old.transactions number None) }
         requires other_queues { AreThere (D.home desk.old) (get_or self.old.transactions other None) }
-        ensures merges { IfOk result (λ came_to. (came_to ≡ tried.Own 0) × Merges (D.home desk.old) self.old.by.0 step_number number other
+        ensures merges { IfDone result (Merges (D.home desk.old) self.old.by.0 step_number number other
             self.old self.new (D.view desk.old) (D.view desk.new)) }
         ensures home { D.home desk.new ≡ D.home desk.old }
     {

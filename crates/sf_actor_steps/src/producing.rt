@@ -171,8 +171,7 @@ impl<B: TableName> Bindings<B> {
         requires there { HasQueueOf (D.home desk.old) (name_in (holdings_of self.old) name) }
         requires points { ArePoints input.points.now }
         requires crop { IsCrop input.crop }
-        ensures makes { IfOk result (MakesQueue (D.home desk.old) step_number name input.entry.picture.now input.entry.time input.entry.crop input.entry.points.now
-            self.old self.new (D.view desk.old) (D.view desk.new)) }
+        ensures makes { IfOk result (MakesQueue (D.home desk.old) step_number name input.entry self.old self.new (D.view desk.old) (D.view desk.new)) }
         ensures home { D.home desk.new ≡ D.home desk.old }
     {
         let picture = input.picture.copy(self.alloc)?;

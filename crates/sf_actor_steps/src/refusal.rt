@@ -73,13 +73,12 @@ impl<B: TableName> Bindings<B> {
     ghost use Rattle.std.specs.Prelude.{◌≡◌, ℕ, MatchOption, Some, None, false, true, is_some, not, ◌==◌, if◌then◌else◌};
     ghost use Rattle.sf_actor.specs.sf_picture.declared.picture.Picture.{Picture};
     ghost use Rattle.sf_actor.specs.sf_script_scene.declared.step.Step.TheVariants as step;
-    ghost use Rattle.sf_actor.specs.sf_slots.declared.slot.Held.{Held};
     ghost use Rattle.sf_actor.specs.Names.{is_apart, is_frame, is_lent, is_owing, name_in, transaction_in};
     ghost use Rattle.sf_actor.specs.Scripts.{picture_at};
     ghost use Rattle.sf_actor.specs.Tests.{is_taken, refusal_of};
     ghost use Rattle.sf_actor.specs.sf_script_scene.Named.{KnowsPicture};
     ghost use Rattle.sf_actor.specs.sf_script_scene.Scene.{has_picture};
-    ghost use Rattle.sf_actor_steps.specs.Bindings.{holdings_of, lent_of, merge_refusal, owing_of, queue_refusal, shown_of};
+    ghost use Rattle.sf_actor_steps.specs.Bindings.{HoldsOwing, holdings_of, lent_of, merge_refusal, queue_refusal, shown_of};
 
     /// Whether a name holds something.
     fn holds(&self, name: u32) -> bool
@@ -130,7 +129,7 @@ impl<B: TableName> Bindings<B> {
     #[tactic(auto, using(crate::proofs::HoldingLemmas::held))]
     fn owed(&self, name: u32) -> Option<&Owing<B>>
         ensures { MatchOption result (is_owing (name_in (holdings_of self.now) name) ≡ false)
-            (λ owing. (held : Held) × (name_in (holdings_of self.now) name ≡ Some (owing_of owing.now held))) }
+            (λ owing. HoldsOwing (holdings_of self.now) name owing.now) }
     {
         match self.names.get(name) {
             Some(Holding::Owes(owing, _)) => Some(owing),

@@ -3,7 +3,7 @@ use Rattle.std.specs.Prelude.{◌≡◌, ℕ, ◌+◌, ◌<◌, max, List, [], �
 use Rattle.sf_calls.specs.declared.object.Entry.{Entry}
 use Rattle.sf_calls.specs.declared.object.Answer.{Answer}
 use Rattle.sf_calls.specs.declared.object.Answer.TheVariants.{Replies, Waits}
-use Rattle.sf_calls.specs.Histories.{entry}
+use Rattle.sf_calls.specs.Histories.{IsLegal, entry}
 
 module _ {C R : Type 0} where
   abbrev pub brought_of : Entry (ℕ × C) (ℕ × R) → ℕ
@@ -44,3 +44,11 @@ module _ {C R : Type 0} where
   abbrev pub AnswersStamped : (List (Entry C R) → ℕ → C → Answer R → Type 0) → List (Entry (ℕ × C) (ℕ × R)) → ℕ → ℕ × C → Answer (ℕ × R) → Type 0
   AnswersStamped answers earlier by call (Replies reply) = (reply.0 ≡ next_stamp call.0 earlier) × answers (unstamped earlier) by call.1 (Replies reply.1)
   AnswersStamped answers earlier by call Waits = answers (unstamped earlier) by call.1 Waits
+
+  -- a history is legal with its stamps
+  abbrev pub IsLegalStamped : (List (Entry C R) → ℕ → C → Answer R → Type 0) → List (Entry (ℕ × C) (ℕ × R)) → Type 0
+  IsLegalStamped answers calls = IsLegal (AnswersStamped answers) calls
+
+  -- it is legal without its stamps, and each call has the stamp that comes next
+  abbrev pub IsLegalInTurn : (List (Entry C R) → ℕ → C → Answer R → Type 0) → List (Entry (ℕ × C) (ℕ × R)) → Type 0
+  IsLegalInTurn answers calls = IsLegal answers (unstamped calls) × AreStamped calls

@@ -1,13 +1,17 @@
 -- The lease that a consumer means by a slot and a frame's number.
 use Rattle.std.specs.Prelude.{Some, IsSome, ◌≡◌, ◌<◌, ℕ, unwrap_or, Result, Ok, Err}
 use Rattle.sf_base.specs.Fences.{no_points}
+use Rattle.sf_base.specs.declared.ids.ActorId.{ActorId}
 use Rattle.sf_base.specs.declared.ids.SlotId.{SlotId}
 use Rattle.sf_base.specs.declared.status.QStatus.{QStatus}
+use Rattle.sf_slots.specs.declared.calls.PlainCall.{PlainCall}
 use Rattle.sf_slots.specs.declared.calls.PlainReply.{PlainReply}
 use Rattle.sf_slots.specs.declared.calls.PlainReply.TheVariants as reply
 use Rattle.sf_slots.specs.declared.calls.ReadToken.{ReadToken}
 use Rattle.sf_slots.specs.declared.slot.Held.{Held}
 use Rattle.sf_slots.specs.declared.slot.SlotState.TheVariants.{Acquired}
+use Rattle.sf_slots.specs.Queue.{Queue, told_of}
+use Rattle.sf_slots.specs.Tells.{Continues}
 use Rattle.sf_slots.specs.Told.{Told, slot_at}
 use Rattle.std.specs.Prelude.{pos}
 
@@ -36,6 +40,12 @@ pub record IsLeaseOf (told : Told) (place : SlotId) (number : ℕ) (lease : Read
   pub frame : lease.frame ≡ number
   pub whole : (held : Held) → (slot_at told place.0).state ≡ Acquired → (slot_at told place.0).held ≡ Some held
       → (slot_at told place.0).frame ≡ number → lease.held ≡ held
+
+-- of each caller, and for whichever lease says the slot and the frame that are meant, the history of a queue goes on with the call of
+-- that lease and this reply
+abbrev pub ContinuesFor : {R : Type 0} → Queue R → Queue R → SlotId → ℕ → (ReadToken → PlainCall) → PlainReply → Type 0
+ContinuesFor before after slot number asked told =
+    (by : ActorId) (lease : ReadToken) → IsLeaseOf (told_of before) slot number lease → Continues before after by (asked lease) told
 
 -- the reply to an attach
 abbrev pub attach_reply : Result (SlotId × Held) QStatus → PlainReply

@@ -4,14 +4,13 @@ ghost use Rattle.std.specs.Prelude.{◌≡◌, ℕ, ◌<◌, ◌≤◌, ◌-◌,
 ghost use Rattle.sf_slots.specs.declared.calls.PlainCall.TheVariants as call;
 ghost use Rattle.sf_base.specs.declared.ids.ActorId.{ActorId};
 ghost use Rattle.sf_slots.specs.declared.calls.PlainReply.TheVariants as reply;
-ghost use Rattle.sf_slots.specs.declared.calls.ReadToken.{ReadToken};
 ghost use Rattle.sf_slots.specs.declared.slot.SlotState.TheVariants as state;
 ghost use Rattle.sf_slots.specs.Queue.{told_of, slot_in, returned, cleared, taken, seated, next_held, IsSound};
 ghost use Rattle.sf_slots.specs.Told.{slot_at, slot_for};
 ghost use Rattle.sf_slots.specs.Replies.{refusal_of, refused_or, is_consumer_full};
 ghost use Rattle.sf_slots.specs.Tells.{Continues};
 ghost use Rattle.sf_slots.specs.Effects.{refusal_in, refusal_with, nobody};
-ghost use Rattle.sf_consume.specs.Reads.{lease_of, sized, attach_reply, IsLeaseOf, IsTakenThere};
+ghost use Rattle.sf_consume.specs.Reads.{lease_of, sized, attach_reply, ContinuesFor, IsTakenThere};
 ghost use Rattle.sf_base.specs.Fences.{no_points};
 
 use sf_base::{Fence, QStatus, SlotId};
@@ -55,9 +54,7 @@ pub fn release<R: Drop>(
     ensures back { IfErr result (λ refused. refused.1 ≡ (right, fence)) }
     ensures unchanged { OnErr result (q.new ≡ q.old) }
     ensures done { OnOk result (q.new ≡ returned q.old slot.0 right fence) }
-    ensures history { (by : ActorId) (lease : ReadToken) → IsLeaseOf (told_of q.old) slot frame lease →
-        Continues q.old q.new by (call.Release lease fence)
-        (refused_or (refusal_with result) reply.Done) }
+    ensures history { ContinuesFor q.old q.new slot frame (λ lease. call.Release lease fence) (refused_or (refusal_with result) reply.Done) }
 {
     match refused_read(q, slot, frame) {
         Some(refused) => Err((refused, (right, fence))),
@@ -77,8 +74,7 @@ pub fn detach_read<R: Drop>(q: &mut Slots<R>, slot: SlotId, frame: u64) -> Resul
     ensures refusal { refusal_in result ≡ refusal_of (told_of q.old) nobody (call.DetachRead (lease_of (told_of q.old) slot frame)) }
     ensures unchanged { OnErr result (q.new ≡ q.old) }
     ensures done { OnOk result (q.new ≡ cleared q.old slot.0) }
-    ensures history { (by : ActorId) (lease : ReadToken) → IsLeaseOf (told_of q.old) slot frame lease →
-        Continues q.old q.new by (call.DetachRead lease) (refused_or (refusal_in result) reply.Done) }
+    ensures history { ContinuesFor q.old q.new slot frame (λ lease. call.DetachRead lease) (refused_or (refusal_in result) reply.Done) }
 {
     match refused_read(q, slot, frame) {
         Some(refused) => Err(refused),

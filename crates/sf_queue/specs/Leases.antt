@@ -37,10 +37,14 @@ pub record IsLeaseOf (told : Told) (place : SlotId) (number : ℕ) (lease : Writ
   pub numbered : lease.held.number ≡ number
   pub whole : (held : Held) → (slot_at told place.0).held ≡ Some held → held.number ≡ number → lease.held ≡ held
 
--- whichever lease says the slot and the buffer that are meant, the history of a queue goes on with the call of that lease and this reply
+-- whichever lease says the slot and the buffer that are meant, the history of a queue goes on with the call and the reply of that lease
+abbrev pub ContinuesByLease : {R : Type 0} → Queue R → Queue R → ActorId → SlotId → ℕ → (WriteToken → PlainCall) → (WriteToken → PlainReply) → Type 0
+ContinuesByLease before after by slot number asked told =
+    (lease : WriteToken) → IsLeaseOf (told_of before) slot number lease → Continues before after by (asked lease) (told lease)
+
+-- the same, where the reply is the same for each of these leases
 abbrev pub ContinuesFor : {R : Type 0} → Queue R → Queue R → ActorId → SlotId → ℕ → (WriteToken → PlainCall) → PlainReply → Type 0
-ContinuesFor before after by slot number asked told =
-    (lease : WriteToken) → IsLeaseOf (told_of before) slot number lease → Continues before after by (asked lease) told
+ContinuesFor before after by slot number asked told = ContinuesByLease before after by slot number asked (λ lease. told)
 
 -- cancelling, or detaching, which needs a requested buffer
 abbrev pub lent_call : Bool → WriteToken → PlainCall

@@ -3,14 +3,12 @@
 ghost use Rattle.std.specs.Prelude.{◌≡◌, ◌<◌, OnOk, OnErr, IfErr, IfOk, Option, Some, None, false, true, MatchOption};
 ghost use Rattle.sf_slots.specs.declared.calls.PlainCall.TheVariants as call;
 ghost use Rattle.sf_slots.specs.declared.calls.PlainReply.TheVariants as reply;
-ghost use Rattle.sf_slots.specs.declared.calls.WriteToken.{WriteToken};
 ghost use Rattle.sf_slots.specs.declared.slot.SlotState.TheVariants as state;
 ghost use Rattle.sf_slots.specs.Queue.{told_of, slot_in, marked, returned, cleared, IsSound};
 ghost use Rattle.sf_slots.specs.Told.{slot_at};
 ghost use Rattle.sf_slots.specs.Replies.{refusal_of, refused_or, is_lent};
-ghost use Rattle.sf_slots.specs.Tells.{Continues};
 ghost use Rattle.sf_slots.specs.Effects.{refusal_in, refusal_with};
-ghost use Rattle.sf_queue.specs.Leases.{lease_of, lent_call, meant, ContinuesFor, FindsLent, IsLentThere, IsLeaseOf};
+ghost use Rattle.sf_queue.specs.Leases.{lease_of, lent_call, meant, ContinuesByLease, ContinuesFor, FindsLent, IsLentThere};
 ghost use Rattle.sf_base.specs.Fences.{no_points};
 
 use crate::connection::is_producer;
@@ -108,9 +106,8 @@ pub fn request<R: Drop>(
     ensures held { IfOk result (λ held. held ≡ meant (told_of q.old) slot buffer) }
     ensures unchanged { OnErr result (q.new ≡ q.old) }
     ensures done { OnOk result (q.new ≡ marked q.old slot.0) }
-    ensures history { (lease : WriteToken) → IsLeaseOf (told_of q.old) slot buffer lease →
-        Continues q.old q.new by (call.Request lease)
-        (refused_or (refusal_in result) (reply.Requested lease.held)) }
+    ensures history { ContinuesByLease q.old q.new by slot buffer (λ lease. call.Request lease)
+        (λ lease. refused_or (refusal_in result) (reply.Requested lease.held)) }
 {
     match lent_to(q, by, slot, buffer) {
         Ok(held) => {

@@ -1,10 +1,11 @@
 -- What it is for the history of a queue's calls to give the queue, and for a call to go on with it.
 use Rattle.std.specs.Prelude.{◌≡◌, ℕ, List, [], ◌∷◌}
 use Rattle.sf_base.specs.declared.ids.ActorId.{ActorId}
+use Rattle.sf_base.specs.declared.ids.QueueId.{QueueId}
 use Rattle.sf_slots.specs.declared.calls.Entry.{Entry}
 use Rattle.sf_slots.specs.declared.calls.PlainCall.{PlainCall}
 use Rattle.sf_slots.specs.declared.calls.PlainReply.{PlainReply}
-use Rattle.sf_slots.specs.Queue.{Queue, told_of}
+use Rattle.sf_slots.specs.Queue.{Queue, empty_queue, told_of}
 use Rattle.sf_slots.specs.History.{told_by}
 use Rattle.sf_slots.specs.Replies.{reply_after}
 
@@ -28,6 +29,10 @@ Continues before after caller call reply = (width height step : ℕ) (history : 
 abbrev pub CameBy : {R : Type 0} → Queue R → List Entry → Queue R → Type 0
 CameBy {R} start [] after = after ≡ start
 CameBy {R} start (entry ∷ earlier) after = (before : Queue R) × (CameBy start earlier before) × (Continues before after entry.caller entry.call entry.reply)
+
+-- a queue of this default size, whatever its number, came by these calls from when it was new
+abbrev pub CameFromNew : {R : Type 0} → Queue R → ℕ → ℕ → List Entry → Type 0
+CameFromNew after width height history = (number : QueueId) × CameBy (empty_queue number width height) history after
 
 -- each reply is what the history before it says
 abbrev pub AreReplies : ℕ → ℕ → List Entry → Type 0

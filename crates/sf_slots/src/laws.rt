@@ -10,7 +10,7 @@ ghost use Rattle.sf_slots.specs.Told.{Told, slot_for, has_free};
 ghost use Rattle.sf_slots.specs.Queue.{Queue, IsSound, empty_queue, told_of};
 ghost use Rattle.sf_slots.specs.Refusals.{refusals_of};
 ghost use Rattle.sf_slots.specs.Replies.{refusal_of};
-ghost use Rattle.sf_slots.specs.Tells.{IsItsHistory, IsToldBy, CameBy};
+ghost use Rattle.sf_slots.specs.Tells.{CameFromNew, IsItsHistory, IsToldBy};
 
 /// A new queue is what a history without calls gives.
 pub fn no_calls_tell_of_a_new_queue<R>()
@@ -34,6 +34,6 @@ pub fn a_free_slot_is_found_where_there_is_one<R>()
 /// After every list of calls that a new queue came by, it is what its history gives, and each reply
 /// was what the history before it gives.
 pub fn calls_are_told_by_their_history<R>()
-    ensures { (number : QueueId) (width height : ℕ) (history : List Entry) (after : Queue R) →
-        CameBy (empty_queue number width height) history after → IsItsHistory after width height history }
+    ensures { (width height : ℕ) (history : List Entry) (after : Queue R) →
+        CameFromNew after width height history → IsItsHistory after width height history }
 {}

@@ -110,9 +110,13 @@ abbrev pub promised : {T : Type 0} → Option (Token T) → Option T → Option 
 promised (Some t) (Some x) = Some record t { promise = Some x }
 promised t x = t
 
+-- the token of a turn that has not entered and promises nothing yet
+abbrev pub token_away : {T : Type 0} → ℕ → ℕ → T → Token T
+token_away buffer number expects = record { buffer = buffer; number = number; stage = Away; expects = expects; promise = None }
+
 -- the token of the turn after it, which expects what was announced
 abbrev pub heir_of : {T : Type 0} → Option (Token T) → Option T → Option (Token T)
-heir_of (Some t) (Some x) = Some record { buffer = t.buffer; number = t.number + 1; stage = Away; expects = x; promise = None }
+heir_of (Some t) (Some x) = Some (token_away t.buffer (t.number + 1) x)
 heir_of t x = None
 
 -- the promise that a step announces
@@ -132,6 +136,14 @@ module _ {T : Type 0} where
   -- a token, after it took a note in
   abbrev pub told : Knows T → Knows T → Knows T
   told v w = record v { seen = v.seen ++ w.seen }
+
+  -- the token of a turn, after it took a note in and entered
+  abbrev pub entering : Knows T → Knows T → Knows T
+  entering v w = record (told v w) { token = at_stage Inside v.token }
+
+  -- the stock of one buffer, after its pixels came home: the token of its turn 0
+  abbrev pub begun : Knows T → ℕ → T → Knows T
+  begun v buffer expects = record v { stock = []; opens = false; token = Some (token_away buffer 0 expects) }
 
   -- the token of a turn, once the next was issued
   abbrev pub issuing : Knows T → Knows T
@@ -242,20 +254,7 @@ module _ {T : Type 0} where
     -- the pixels of a new buffer come home, and it has its turn 0
     abbrev pub Begins : (P → T) → Step (Home P T) → Me (Home P T) (Knows T) → ℕ → Me (Home P T) (Knows T) → Type 0
     Begins stamp_of st m n m' = (p : P) → m.1 ≡ (st.word, Full p) ∷ []
-        → m' ≡ (
-          record m.0 {
-            stock = [];
-            opens = false;
-            token = Some record {
-              buffer = st.word;
-              number = 0;
-              stage = Away;
-              expects = stamp_of p;
-              promise = None;
-            };
-          },
-          [],
-        )
+        → m' ≡ (begun m.0 st.word (stamp_of p), [])
 
     -- the token's turn leaves
     abbrev pub Leaves : Step (Home P T) → Me (Home P T) (Knows T) → ℕ → Me (Home P T) (Knows T) → Type 0

@@ -2,8 +2,8 @@
 //! first. Leases of `sf_surface` carry it.
 ghost use Rattle.std.specs.Arc.{arc_value};
 ghost use Rattle.std.specs.Prelude.{◌≡◌, ℕ, ◌<◌, ◌≤◌, ◌↔◌, false, [], Some, None, IfOk, IfErr, IsTrue, MatchResult};
-ghost use Rattle.sf_turns.specs.declared.protocol.Stage.TheVariants as stage;
-ghost use Rattle.sf_turns.specs.Rule.{IsAside};
+ghost use Rattle.sf_turns.specs.Rule.{IsAside, token_away};
+ghost use Rattle.sf_turns.specs.Tokens.{last_turn};
 ghost use Rattle.sf_turns.specs.Views.{Observes, issued_with, heir_expecting, loaded_once, IsExactAlone};
 
 use crate::inside::Inside;
@@ -135,23 +135,10 @@ impl<P: Stamped> Turn<P> {
     pub(crate) fn heir(parts: Box<Parts<P>>, seat: TableSeat<P>) -> Turn<P>
         requires table { arc_value parts.value.table ≡ seat.table_id }
         requires aside { IsAside seat.me }
-        requires token { seat.me.0.token ≡ Some record {
-          buffer = parts.value.buffer;
-          number = parts.value.number;
-          stage = stage.Away;
-          expects = parts.value.expects;
-          promise = None;
-        } }
+        requires token { seat.me.0.token ≡ Some (token_away parts.value.buffer parts.value.number parts.value.expects) }
         requires bare { (seat.me.0.opens ≡ false) × (seat.me.0.stock ≡ []) × (seat.me.1 ≡ []) }
         requires range { parts.value.buffer < seat.table_id.slots }
-        ensures { result ≡ record {
-          table = seat.table_id;
-          buffer = parts.value.buffer;
-          number = parts.value.number;
-          expects = parts.value.expects;
-          loads = parts.value.loads;
-          shown = parts.value.shown;
-        } }
+        ensures { result ≡ last_turn seat.table_id parts.value }
     {
         Turn { parts, seat }
     }

@@ -1,12 +1,12 @@
 //! The table that all seats and tokens of a run share, and each step of a seat on it.
 ghost use Rattle.std.specs.Prelude.{◌≡◌, ℕ, ◌+◌, ◌%◌, ◌-◌, ◌<◌, ◌≤◌, ◌^◌, ◌≢◌, true};
-ghost use Rattle.std.specs.Prelude.{false, [], ◌∷◌, ◌++◌, Some, None, length, take, drop, replicate, IfOk, IfErr};
+ghost use Rattle.std.specs.Prelude.{false, [], ◌∷◌, Some, None, length, take, drop, replicate, IfOk, IfErr};
 ghost use Rattle.sf_turns.specs.declared.protocol.Home.TheVariants.{Vacant, Full, Said};
 ghost use Rattle.sf_turns.specs.declared.protocol.Stage.TheVariants as stage;
 ghost use Rattle.sf_turns.specs.Counts.{IsExact};
 ghost use Rattle.sf_base.specs.Points.{greatest};
 ghost use Rattle.sf_turns.specs.declared.protocol.Token.{Token};
-ghost use Rattle.sf_turns.specs.Rule.{opened, loaded, note, told, issuing, heir, endowing, endowed, cutting, cut_off, lending};
+ghost use Rattle.sf_turns.specs.Rule.{opened, loaded, note, entering, begun, issuing, heir, endowing, endowed, cutting, cut_off, lending};
 ghost use Rattle.sf_turns.specs.Rule.{lent, absorbed, handed, departed_with, at_stage, IsAlone, IsAside, HasSeen, Stays};
 
 use crate::protocol::{
@@ -113,13 +113,7 @@ impl<P: Stamped> TurnTable<P> {
         requires empty { seat.old.me.1 ≡ [] }
         requires range { buffer < self.now.slots }
         ensures same { Stays seat.old seat.new }
-        ensures entered { seat.new.me ≡ (
-          record seat.old.me.0 {
-            seen = seat.old.me.0.seen ++ told.me.0.seen;
-            token = at_stage stage.Inside seat.old.me.0.token;
-          },
-          (buffer, Vacant) ∷ [],
-        ) }
+        ensures entered { seat.new.me ≡ (entering seat.old.me.0 told.me.0, (buffer, Vacant) ∷ []) }
         ensures found { (t : Token P.Stamp) → seat.old.me.0.token ≡ Some t → P.stamp_of result ≡ t.expects }
         ensures counted { (t : Token P.Stamp) → seat.old.me.0.token ≡ Some t → greatest buffer told.me.0.seen ≤ t.number }
     {
@@ -154,20 +148,7 @@ impl<P: Stamped> TurnTable<P> {
         requires stock { (seat.old.me.0.stock ≡ buffer ∷ []) × (seat.old.me.0.opens ≡ false) × (seat.old.me.0.token ≡ None) }
         requires empty { seat.old.me.1 ≡ [] }
         ensures same { Stays seat.old seat.new }
-        ensures begun { seat.new.me ≡ (
-          record seat.old.me.0 {
-            stock = [];
-            opens = false;
-            token = Some record {
-              buffer = buffer;
-              number = 0;
-              stage = stage.Away;
-              expects = P.stamp_of p;
-              promise = None;
-            };
-          },
-          [],
-        ) }
+        ensures begun { seat.new.me ≡ (begun seat.old.me.0 buffer (P.stamp_of p), []) }
     {
         self.table.shared.load::<Clear>(seat, buffer as usize);
         self.table

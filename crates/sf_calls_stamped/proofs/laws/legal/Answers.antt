@@ -5,4 +5,4 @@ pub returns-clause-without : goal.returns-clause-without
 returns-clause-without g c = λ mark calls legal. legal_without (g.O.Object.answers mark) calls legal
 
 pub returns-clause-back : goal.returns-clause-back
-returns-clause-back g c = λ mark calls legal are. legal_with (g.O.Object.answers mark) calls legal are
+returns-clause-back g c = λ mark calls legal. legal_with (g.O.Object.answers mark) calls legal.0 legal.1
