@@ -5,7 +5,8 @@ use Rattle.sf_base.specs.declared.pixel.Rgba.{Rgba}
 use Rattle.sf_layer.specs.declared.layer.Layer.{Layer}
 use Rattle.sf_picture.specs.declared.picture.Picture.{Picture}
 use Rattle.sf_view.specs.Contents.{content_of}
-use Rattle.sf_view.specs.Image.{layer_alpha, opaque_black, paint_content, under_layers}
+use Rattle.sf_view.specs.Image.{image_in, layer_alpha, opaque_black, paint_content, under_layers}
+use Rattle.sf_output_shown.specs.Hits.{front}
 
 -- the layers whose alpha does not come to 0
 abbrev pub that_show : List Layer → List Layer → List Layer
@@ -26,3 +27,7 @@ pub record IsPaintedLast (picture : ℕ → Picture) (tree : List Layer) (x y : 
 abbrev pub IsSeenIn : (ℕ → Picture) → List Layer → ℤ → ℤ → Rgba → Option LayerId → Type 0
 IsSeenIn picture tree x y pixel None = Unit {0}
 IsSeenIn picture tree x y pixel (Some number) = IsPaintedLast picture tree x y pixel number
+
+-- in the image of these layers in this order a hit test finds what was painted last
+abbrev pub IsHitSeen : (ℕ → Picture) → List Layer → List LayerId → ℤ → ℤ → Type 0
+IsHitSeen picture tree order x y = IsSeenIn picture tree x y (image_in picture tree order x y) (front tree order x y)

@@ -16,7 +16,7 @@ ghost use Rattle.sf_output_shown.specs.Copies.{written};
 ghost use Rattle.sf_output_shown.specs.Cuts.{cut};
 ghost use Rattle.sf_output_shown.specs.Hits.{front};
 ghost use Rattle.law_images.specs.Counts.{times_in};
-ghost use Rattle.law_images.specs.Seen.{IsSeenIn, over_black, that_show};
+ghost use Rattle.law_images.specs.Seen.{IsHitSeen, over_black, that_show};
 ghost use Rattle.law_images.specs.Pixels.{IsPixel, transparent};
 ghost use Rattle.law_images.specs.Trees.{LayerOfTree, above_passes};
 
@@ -31,7 +31,7 @@ pub fn every_image_is_opaque()
 pub fn what_is_transparent_changes_nothing()
     ensures alpha { (under source : Rgba) → IsPixel under → painted under source 0 ≡ under }
     ensures clear { (under : Rgba) (alpha : ℕ) → IsPixel under → painted under transparent alpha ≡ under }
-    ensures layers { (pictures : ℕ → Picture) (tree : List Layer) (x y : ℤ) (layers : List Layer)
+    ensures layers { (pictures : ℕ → Picture) (tree layers : List Layer) (x y : ℤ)
         → over_black pictures tree x y (that_show tree layers) ≡ over_black pictures tree x y layers }
 {}
 
@@ -41,7 +41,7 @@ pub fn a_hit_says_what_is_seen()
     ensures nothing { (pictures : ℕ → Picture) (tree : List Layer) (order : List LayerId) (x y : ℤ)
         → front tree order x y ≡ None → image_in pictures tree order x y ≡ opaque_black }
     ensures layer { (pictures : ℕ → Picture) (tree : List Layer) (order : List LayerId) (x y : ℤ)
-        → IsSeenIn pictures tree x y (image_in pictures tree order x y) (front tree order x y) }
+        → IsHitSeen pictures tree order x y }
 {}
 
 /// A tree without mirrors is written out as it is; with mirrors it stands in front of the copies, at

@@ -55,8 +55,8 @@ pub record SentActors (B : Type 0) (table : TableId) : Type 0 where
   pub back : List (SeatedActor B)
   pub came : CameOfNew scene table locks known (new_actors declared stock) actors sent back
 
--- A vsync of a compositor among threads.
-pub record OneVsync (B : Type 0) (lease : Ghosts ReadLeaseOf SeatView ReadLeaseOf Issued) : Type 0 where
+-- A vsync of a compositor among threads, and what is known at the join: all that its seats knew behind it.
+pub record JoinedVsync (B : Type 0) (lease : Ghosts ReadLeaseOf SeatView ReadLeaseOf Issued) : Type 0 where
   -- the table of buffers, the locks, and the time from one vsync to the next
   pub table : TableId
   pub locks : Locks B
@@ -65,6 +65,10 @@ pub record OneVsync (B : Type 0) (lease : Ghosts ReadLeaseOf SeatView ReadLeaseO
   pub before : Sitting B
   pub after : Sitting B
   pub is : IsVsync lease table locks period before after
+  -- what is known at the join, with the calls on arrivals
+  pub joined : DeskView B
+  pub arriving : ArrivalCalls
+  pub known : IsKnown joined arriving after.seats
 
 -- Its vsyncs, from one sitting to another.
 pub record VsyncLog (B : Type 0) (lease : Ghosts ReadLeaseOf SeatView ReadLeaseOf Issued) : Type 0 where
@@ -100,6 +104,15 @@ pub record FirstLog (B : Type 0) (lease : Ghosts ReadLeaseOf SeatView ReadLeaseO
   pub only : OnlyFirstTakes arriving
   -- they begin with those that the seats know
   pub begins : Begins (arrivals_seen vsyncs) arriving
+
+-- Vsyncs that took frames of a run.
+pub record LentLog (B : Type 0) (lease : Ghosts ReadLeaseOf SeatView ReadLeaseOf Issued) : Type 0 where
+  pub vsyncs : VsyncLog B lease
+  -- before the first of them nothing was taken or called
+  pub begun : IsBegun vsyncs.start
+  -- what is known at the join: each frame that they took was given by a call of the run
+  pub joined : DeskView B
+  pub lent : AreLent joined (all_taken vsyncs)
 
 -- Vsyncs whose seats were shown only what steps signalled.
 pub record SignalledLog (B : Type 0) (lease : Ghosts ReadLeaseOf SeatView ReadLeaseOf Issued) : Type 0 where

@@ -2,7 +2,6 @@
 //! played run so far.
 ghost use Rattle.std.specs.Prelude.{◌≡◌, ℕ};
 ghost use Rattle.law_threads.specs.sf_calls.Histories.{GoesOnWithout};
-ghost use Rattle.law_threads.specs.sf_actor.Desks.{DeskView};
 ghost use Rattle.law_threads.specs.sf_actor.Plain.{home_of, view_of as desk_view};
 ghost use Rattle.law_threads.specs.sf_live_seats.Arriving.{ArrivalCalls};
 ghost use Rattle.law_threads.specs.sf_live_seats.Seats.{view_of};
@@ -10,22 +9,21 @@ ghost use Rattle.law_threads.specs.sf_actor_set.Opening.{new_actors};
 ghost use Rattle.law_threads.specs.law_played.Actors.{AreActors};
 ghost use Rattle.law_threads.specs.law_played.Vsyncs.{vsyncs_in};
 ghost use Rattle.law_threads.specs.sf_turns.Counts.{IsExact};
-ghost use Rattle.law_threads.specs.sf_play.Players.{AreLent, Stands};
+ghost use Rattle.law_threads.specs.sf_play.Players.{Stands};
 ghost use Rattle.law_threads.specs.sf_play.Standing.{IsStanding, StandsInRun};
 ghost use Rattle.law_joins.specs.Calls.{AreReleasesOn, IsGivenOn};
 ghost use Rattle.law_joins.specs.SeatedActors.{WalkedBack};
 ghost use Rattle.law_joins.specs.Logs.{HasTaken, HoldsLent, IsBegun, IsKnown};
 ghost use Rattle.law_joins.specs.Logs.{OnlyFirstTakes};
 ghost use Rattle.law_joins.specs.Joined.{HavePictures, JoinedRun, JoinsLedger, JoinsOver, JoinsRights, actors_of, player_of, reports_at, so_of};
-ghost use Rattle.law_joins.specs.PlayedLogs.{FirstLog, JoinedLog, MarkedQueue, OneVsync, PlayedSo, SawSignals, SentActors, SignalledLog, TakenSo, VsyncLog};
+ghost use Rattle.law_joins.specs.PlayedLogs.{FirstLog, JoinedLog, JoinedVsync, LentLog, MarkedQueue, PlayedSo, SawSignals, SentActors, SignalledLog, TakenSo, VsyncLog};
 ghost use Rattle.law_joins.specs.PlayedLogs.{all_released, all_taken, arrivals_seen, calls_seen};
 
 use law_threads::{Lease, ReadLease, TableName};
 
 /// What a compositor's seats knew before a vsync is known wherever what they knew after it is.
 pub fn what_seats_knew_is_known_at_the_join<B: TableName>()
-    ensures { (one : OneVsync B ⟦<ReadLease<B> as Lease>⟧) (joined : DeskView B) (arriving : ArrivalCalls)
-        → IsKnown joined arriving one.after.seats → IsKnown joined arriving one.before.seats }
+    ensures { (vsync : JoinedVsync B ⟦<ReadLease<B> as Lease>⟧) → IsKnown vsync.joined vsync.arriving vsync.before.seats }
 {}
 
 /// What a compositor took among threads is what its log says, up to the last that it took; so it is
@@ -45,8 +43,7 @@ pub fn vsyncs_saw_what_steps_signalled<B: TableName>()
 /// The frames that a compositor among threads holds are ones that calls of the run gave, where what came
 /// is.
 pub fn what_a_compositor_holds_was_lent<B: TableName>()
-    ensures { (vsyncs : VsyncLog B ⟦<ReadLease<B> as Lease>⟧) (joined : DeskView B) → IsBegun vsyncs.start → AreLent joined (all_taken vsyncs)
-        → HoldsLent joined vsyncs.last.handler }
+    ensures { (log : LentLog B ⟦<ReadLease<B> as Lease>⟧) → HoldsLent log.joined log.vsyncs.last.handler }
 {}
 
 /// The vsyncs of a compositor among threads play what was sent: their commits are in order, each was ready

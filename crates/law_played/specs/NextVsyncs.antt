@@ -1,6 +1,6 @@
 -- A run so far and its next vsync, as the laws about vsyncs take them: values, and what is known of them.
 use Rattle.std.specs.Prelude.{◌≡◌, ℕ, ◌+◌, ◌*◌, true, false, List, [], ◌∷◌, ◌++◌, length, map, Option}
-use Rattle.std.specs.List.{All, range_with_len}
+use Rattle.std.specs.List.{All, AllZip, range_with_len}
 use Rattle.sf_base.specs.declared.fences.Seen.{Seen}
 use Rattle.sf_commit.specs.Handlers.{Decides, HandlerOf, last_of, new_handler}
 use Rattle.sf_commit.specs.Lending.{KeptRead}
@@ -22,7 +22,7 @@ use Rattle.law_played.specs.Commits.{is_written}
 use Rattle.law_played.specs.Frames.{shown_after}
 use Rattle.law_played.specs.Framing.{framed_arrival, framed_on}
 use Rattle.law_played.specs.Holds.{EndOf, uncommitted}
-use Rattle.law_played.specs.Progress.{GoesOnBy, HasPlayed, SaysVsync, ShowsWhatIsWritten, WroteWhatShows, is_time}
+use Rattle.law_played.specs.Progress.{GivesBack, GoesOnBy, HasPlayed, SaysVsync, ShowsWhatIsWritten, WroteWhatShows, is_time}
 use Rattle.law_played.specs.RunStates.{RunState}
 use Rattle.law_played.specs.Runs.{final_values, written_in}
 use Rattle.law_played.specs.Stages.{VsyncAt, bare_round, round_at_end, told_of}
@@ -110,21 +110,25 @@ module _ {L E R C : Type 0} (lease : Ghosts L E R C) where
   abbrev pub gone_with : (L → FrameOf) → DecidedVsync → List (OnLayer FrameOf)
   gone_with frame vsync = map (framed_on frame) vsync.decides.end.stage.gone
 
-  -- its looks show as written only what is written; or exactly that
-  abbrev pub LooksWrote : (L → FrameOf) → List FrameNumber → DecidedVsync → Type 0
-  LooksWrote frame written vsync = WroteWhatShows frame lease.shown written vsync.decides.looked
+  -- its releases give these back, in their order
+  abbrev pub GivesBackWhatGoes : (L → FrameOf) → DecidedVsync → Type 0
+  GivesBackWhatGoes frame vsync = AllZip (GivesBack frame) (gone_with frame vsync) vsync.told.releases
 
-  abbrev pub LooksShow : (L → FrameOf) → List FrameNumber → DecidedVsync → Type 0
-  LooksShow frame written vsync = ShowsWhatIsWritten frame lease.shown written vsync.decides.looked
+  -- its looks show as written only what is written in a run; or exactly that
+  abbrev pub LooksWrote : RunSoFar L → DecidedVsync → Type 0
+  LooksWrote run vsync = WroteWhatShows run.frame lease.shown run.written vsync.decides.looked
 
-  -- each write among its looks is written that the eye knows after it to have ended
-  abbrev pub EyeKnows : (L → FrameOf) → List FrameNumber → DecidedVsync → Type 0
-  EyeKnows frame written vsync = AllLeases (λ l. lease.knows vsync.later l → is_written written (frame l) ≡ true) vsync.decides.looked
+  abbrev pub LooksShow : RunSoFar L → DecidedVsync → Type 0
+  LooksShow run vsync = ShowsWhatIsWritten run.frame lease.shown run.written vsync.decides.looked
 
-  -- the eye before it is exact, and its ends say of each look what is written
-  pub record EyeTells (frame : L → FrameOf) (written : List FrameNumber) (vsync : DecidedVsync) : Type 0 where
+  -- each write among its looks that the eye knows after it to have ended is written in a run
+  abbrev pub EyeKnows : RunSoFar L → DecidedVsync → Type 0
+  EyeKnows run vsync = AllLeases (λ l. lease.knows vsync.later l → is_written run.written (run.frame l) ≡ true) vsync.decides.looked
+
+  -- the eye before it is exact, and its ends say of each look what is written in a run
+  pub record EyeTells (run : RunSoFar L) (vsync : DecidedVsync) : Type 0 where
     pub exact : lease.is_exact (lease.mark vsync.eye) ≡ true
-    pub tells : AllLeases (λ l. lease.tells (lease.ends vsync.eye) (lease.end l) ≡ is_written written (frame l)) vsync.decides.looked
+    pub tells : AllLeases (λ l. lease.tells (lease.ends vsync.eye) (lease.end l) ≡ is_written run.written (run.frame l)) vsync.decides.looked
 
   -- The next vsync of a run so far.
   pub record NextVsync : Type 0 where
@@ -164,6 +168,10 @@ module _ {L E R C : Type 0} (lease : Ghosts L E R C) where
       let run = run_behind one.next in
       record run { vsyncs = run.vsyncs ++ one.report ∷ [] }
 
+  -- the record of the vsyncs goes on by it, with the tree that it leaves and the frames that go with it
+  abbrev pub AddsItsRound : ReportedVsync → Type 0
+  AddsItsRound one = GoesOnBy (told_so_far one.next.run) (told_so_far (run_with one)) one.report one.next.vsync.new.tree (gone_by one.next)
+
   -- The last vsync of a run.
   pub record LastVsync : Type 0 where
     -- the vsync
@@ -173,7 +181,7 @@ module _ {L E R C : Type 0} (lease : Ghosts L E R C) where
     -- no time holds a transaction
     pub no_time : All (λ (h : ℕ × Hold). is_time h.1 ≡ false) next.vsync.told.held
     -- its looks show exactly what is written
-    pub shows : LooksShow next.run.frame next.run.written next.vsync
+    pub shows : LooksShow next.run next.vsync
 
   -- what is known behind it, which is the end
   abbrev pub end_seen : NextVsync → EndOf

@@ -94,3 +94,9 @@ pub record IsPlay (scene : SceneValue) (events : List Event) (state : RunState) 
   pub over : IsOver scene playing
   pub shows : playing.events ≡ events
   pub ends : playing.state ≡ state
+
+-- A play of a scene, with what it shows and the state at its end.
+pub record ScenePlay (scene : SceneValue) : Type 0 where
+  pub events : List Event
+  pub state : RunState
+  pub is : IsPlay scene events state

@@ -15,10 +15,12 @@ use Rattle.sf_actor.specs.sf_surface.Histories.{Made}
 use Rattle.sf_actor.specs.sf_surface.Tokens.{ReadLeaseOf}
 use Rattle.sf_actor.specs.sf_surface.declared.call.QCall.TheVariants as call
 use Rattle.sf_actor.specs.sf_surface.declared.call.QReply.{QReply}
+use Rattle.sf_record.specs.declared.record.ArrivalEntry.{ArrivalEntry}
 use Rattle.sf_record.specs.declared.record.CommitRecord.{CommitRecord}
 use Rattle.sf_record.specs.declared.record.QueueHistory.{QueueHistory}
 use Rattle.law_played.specs.Acquired.{TakesFrame}
 use Rattle.law_played.specs.Actors.{AreActors, AreArrivals, AreCalls, KnowsSignals, arrivals_of, mark_declared, run_of}
+use Rattle.law_played.specs.Arrivals.{ArriveInOrder, entry_of}
 use Rattle.law_played.specs.Brought.{ShowBrought}
 use Rattle.law_played.specs.Commits.{CommitInOrder}
 use Rattle.law_played.specs.Frames.{ShowImages}
@@ -63,6 +65,14 @@ module _ {B : Type 0} where
   abbrev pub arrived_over : SceneActors B → List (Arrival FrameOf)
   arrived_over actors = arrivals_of actors.view
 
+  -- what the record of arrivals shows of it
+  abbrev pub entries_over : SceneActors B → List ArrivalEntry
+  entries_over actors = map entry_of (arrived_over actors)
+
+  -- these entries show all that arrived, in its order
+  abbrev pub ArriveInOrderOver : SceneActors B → List ArrivalEntry → Type 0
+  ArriveInOrderOver actors entries = ArriveInOrder actors.scene (arrived_over actors) entries
+
   -- the compositor released these frames
   abbrev pub HaveReleases : SceneActors B → List Released → Type 0
   HaveReleases actors released = AreReleases actors.scene actors.ofs actors.home actors.view released
@@ -78,6 +88,10 @@ module _ {B : Type 0} where
   -- an actor is not ready at its next step
   abbrev pub IsNotReadyOver : SceneActors B → ActorOf B → Type 0
   IsNotReadyOver actors of = IsNotReady actors.scene (run_over actors) of.script (next_step (run_over actors) of.script)
+
+  -- no actor is ready at its next step
+  abbrev pub NoneIsReady : SceneActors B → Type 0
+  NoneIsReady actors = All (IsNotReadyOver actors) actors.ofs
 
   -- a frame shows the scene's picture of its number
   abbrev pub ShowsPictureOf : SceneActors B → ReadLeaseOf → Type 0

@@ -1,9 +1,10 @@
 -- A transition of a play in which an actor is picked, as the laws about plays take it: values, and what is known of them.
-use Rattle.std.specs.Prelude.{◌≡◌, ℕ, ◌==◌, ◌++◌, true, List, find, slice_get, slice_set, Some}
+use Rattle.std.specs.Prelude.{◌≡◌, ℕ, ◌==◌, ◌++◌, true, List, find, slice_get, slice_set, Option, Some}
 use Rattle.sf_commit.specs.sf_token.Pending.{Arrival}
 use Rattle.sf_script_scene.specs.Limits.{IsWithinLimits}
 use Rattle.sf_script_scene.specs.Scene.{SceneValue}
 use Rattle.sf_script_scene.specs.declared.step.ActorScript.{ActorScript}
+use Rattle.sf_script_scene.specs.declared.step.Step.{Step}
 use Rattle.sf_actor.specs.declared.done.Done.{Done}
 use Rattle.sf_actor.specs.declared.tried.Reply.{Reply}
 use Rattle.sf_actor.specs.Desks.{DeskHome, DeskView}
@@ -16,6 +17,7 @@ use Rattle.sf_record.specs.declared.event.VsyncRecords.{VsyncRecords}
 use Rattle.law_played.specs.Actors.{AreCalls, arrivals_of, run_of}
 use Rattle.law_played.specs.RunStates.{RunState, Transition, actor_transition, at_now, idle}
 use Rattle.law_played.specs.Stepping.{DoesOneMore, DrawsInTime, KnowsRun, TellsFirst}
+use Rattle.law_played.specs.Stuck.{IsNotReady, next_step}
 use Rattle.law_played.specs.Telling.{AreNumbered}
 
 -- An actor of a scene, in a state of its run.
@@ -33,6 +35,13 @@ next_transition actor = actor_transition actor.scene actor.script.number actor.s
 
 abbrev pub StaysIdle : PickedActor → Type 0
 StaysIdle actor = next_transition actor ≡ idle actor.state
+
+-- its next step, and that it is not ready at a step
+abbrev pub next_step_of : PickedActor → Option Step
+next_step_of actor = next_step actor.state.run actor.script
+
+abbrev pub IsNotReadyAt : PickedActor → Step → Type 0
+IsNotReadyAt actor s = IsNotReady actor.scene actor.state.run actor.script (Some s)
 
 -- It did one step more.
 pub record StepMore : Type 0 where

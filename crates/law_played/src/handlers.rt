@@ -1,9 +1,7 @@
 //! Laws about vsyncs: what a handler of `sf_commit` does is what the records of a played run may
 //! say. They are called for their clauses alone.
-ghost use Rattle.std.specs.List.{AllZip};
 ghost use Rattle.std.specs.Prelude.{◌≡◌, ℕ, ◌+◌, ◌<◌, ◌≤◌, ◌++◌, List, [], Option, length, map};
 ghost use Rattle.sf_base.specs.Fences.{no_points};
-ghost use Rattle.sf_base.specs.Points.{greatest};
 ghost use Rattle.sf_base.specs.declared.fences.Seen.{Seen as SeenValue};
 ghost use Rattle.sf_script_scene.specs.sf_picture.declared.picture.Picture.{Picture as PictureValue};
 ghost use Rattle.sf_actor.specs.sf_surface.Reading.{plain_lease};
@@ -23,13 +21,13 @@ ghost use Rattle.law_played.specs.Frames.{ShowImages};
 ghost use Rattle.law_played.specs.Framing.{framed_arrival};
 ghost use Rattle.law_played.specs.Histories.{released_in};
 ghost use Rattle.law_played.specs.Holds.{AreHeld};
-ghost use Rattle.law_played.specs.Progress.{AreWrittenToo, GivesBack, GoesOnBy};
+ghost use Rattle.law_played.specs.Progress.{AreWrittenToo};
 ghost use Rattle.law_played.specs.Progress.{held_shown, released_by};
 ghost use Rattle.law_played.specs.Seeing.{HasSeen};
 ghost use Rattle.law_played.specs.Vsyncs.{commits_in};
-ghost use Rattle.law_played.specs.NextVsyncs.{AddedVsync, AreNumberedFrom1, ComeSoFar, DecidedVsync, EyeKnows, EyeTells, HasCome, LastVsync, LendsOneFrame};
-ghost use Rattle.law_played.specs.NextVsyncs.{LooksShow, LooksWrote, NextVsync, ReportedVsync, RunSoFar, ShowsDue, before_vsyncs, end_seen, first_handler, gone_by, gone_with};
-ghost use Rattle.law_played.specs.NextVsyncs.{left_by, run_behind, run_with, that_lends, told_so_far, with_arrivals, with_pixels, with_written};
+ghost use Rattle.law_played.specs.NextVsyncs.{AddedVsync, AddsItsRound, AreNumberedFrom1, ComeSoFar, DecidedVsync, EyeKnows, EyeTells, GivesBackWhatGoes};
+ghost use Rattle.law_played.specs.NextVsyncs.{HasCome, LastVsync, LendsOneFrame, LooksShow, LooksWrote, NextVsync, ReportedVsync, RunSoFar, ShowsDue, before_vsyncs};
+ghost use Rattle.law_played.specs.NextVsyncs.{end_seen, first_handler, left_by, run_behind, run_with, that_lends, told_so_far, with_arrivals, with_pixels, with_written};
 ghost use Rattle.law_played.specs.Seeing.{IsSo, SawGreatest, SeenSoFar, SeesMore, ShowsAllSeen, with_report};
 
 use sf_commit::Lease;
@@ -44,15 +42,13 @@ pub fn a_new_handler_has_played_nothing<L: Lease>()
 /// transaction before it was committed in the same vsync was a barrier or backpressure, which do
 /// not depend on what is written.
 pub fn a_vsync_is_told<L: Lease>()
-    ensures { (one : ReportedVsync L.Lease) → LooksWrote L.Lease one.next.run.frame one.next.run.written one.next.vsync
-        → HasCome (run_with L.Lease one) one.next.vsync.new }
+    ensures { (one : ReportedVsync L.Lease) → LooksWrote L.Lease one.next.run one.next.vsync → HasCome (run_with L.Lease one) one.next.vsync.new }
 {}
 
 /// The record of the vsyncs goes on by that one, with the tree that it leaves and the frames that
 /// go with it.
 pub fn a_vsync_adds_its_round<L: Lease>()
-    ensures { (one : ReportedVsync L.Lease)
-        → GoesOnBy (told_so_far one.next.run) (told_so_far (run_with L.Lease one)) one.report one.next.vsync.new.tree (gone_by L.Lease one.next) }
+    ensures { (one : ReportedVsync L.Lease) → AddsItsRound L.Lease one }
 {}
 
 /// A vsync that commits nothing has no record: that of the vsyncs before stays, and the handler has
@@ -95,16 +91,13 @@ pub fn lending_plays_nothing<L: Lease>()
 /// The looks of a vsync show as written only what is written, where that holds of each write that
 /// the eye knows to have ended; and exactly what is written, where an exact eye's ends say that.
 pub fn looks_show_what_is_written<L: Lease>()
-    ensures known { (frame : L → FrameOf) (written : List FrameNumber) (vsync : DecidedVsync L.Lease)
-        → EyeKnows L.Lease frame written vsync → LooksWrote L.Lease frame written vsync }
-    ensures exact { (frame : L → FrameOf) (written : List FrameNumber) (vsync : DecidedVsync L.Lease)
-        → EyeTells L.Lease frame written vsync → LooksShow L.Lease frame written vsync }
+    ensures known { (run : RunSoFar L) (vsync : DecidedVsync L.Lease) → EyeKnows L.Lease run vsync → LooksWrote L.Lease run vsync }
+    ensures exact { (run : RunSoFar L) (vsync : DecidedVsync L.Lease) → EyeTells L.Lease run vsync → LooksShow L.Lease run vsync }
 {}
 
 /// The releases of a vsync give back the frames that go, in their order.
 pub fn releases_give_back_what_goes<L: Lease>()
-    ensures { (frame : L → FrameOf) → LendsOneFrame L.Lease frame → (vsync : DecidedVsync L.Lease)
-        → AllZip (GivesBack frame) (gone_with L.Lease frame vsync) vsync.told.releases }
+    ensures { (frame : L → FrameOf) → LendsOneFrame L.Lease frame → (vsync : DecidedVsync L.Lease) → GivesBackWhatGoes L.Lease frame vsync }
 {}
 
 /// Where the record goes on by a vsync, so do the frames that were released, and the images that

@@ -1,18 +1,17 @@
 //! Laws about the play of a scene, transition by transition: what a step or a vsync did is the next transition of the
 //! play. They are called for their clauses alone.
-ghost use Rattle.std.specs.Prelude.{◌≡◌, ◌⊎◌, List, [], ◌∷◌, Some, None};
+ghost use Rattle.std.specs.Prelude.{◌≡◌, ◌⊎◌, [], ◌∷◌, Some, None};
 ghost use Rattle.sf_script_scene.specs.Scene.{SceneValue};
 ghost use Rattle.sf_script_scene.specs.declared.step.Step.{Step as StepValue};
-ghost use Rattle.sf_record.specs.declared.event.Event.{Event as EventValue};
 ghost use Rattle.sf_record.specs.declared.event.Event.TheVariants as event;
 ghost use Rattle.law_played.specs.Least.{least_events, least_scene};
-ghost use Rattle.law_played.specs.Plays.{Comes, GoesOnTo, IsBegun, IsPlay, Playing};
+ghost use Rattle.law_played.specs.Plays.{Comes, GoesOnTo, IsBegun, IsPlay, Playing, ScenePlay};
 ghost use Rattle.law_played.specs.Replies.{reply_shown};
-ghost use Rattle.law_played.specs.Stuck.{IsNotReady, next_step};
 ghost use Rattle.law_played.specs.RunStates.{IsPlaysVsync, RunState, release_asked, with_call};
 ghost use Rattle.law_played.specs.NextVsyncs.{VsyncOfPlay, gone_at, state_at};
 ghost use Rattle.law_played.specs.SceneActors.{ReleasedFrame, run_after, run_before};
-ghost use Rattle.law_played.specs.Transitions.{DoneAtDesk, PickedActor, StaysIdle, StepMore, next_transition, reply_of_step, state_after, state_after_step, transition_at};
+ghost use Rattle.law_played.specs.Transitions.{DoneAtDesk, IsNotReadyAt, PickedActor, StaysIdle, StepMore, next_step_of, next_transition};
+ghost use Rattle.law_played.specs.Transitions.{reply_of_step, state_after, state_after_step, transition_at};
 
 use sf_actor::TableName;
 use sf_commit::Lease;
@@ -20,8 +19,7 @@ use sf_commit::Lease;
 /// A scene has at most one play on one thread; of two that have begun one goes on with the other; and
 /// one that has begun has begun still after its next step.
 pub fn a_scene_has_one_play()
-    ensures one { (scene : SceneValue) (events others : List EventValue) (state end : RunState)
-        → IsPlay scene events state → IsPlay scene others end → (events ≡ others) × (state ≡ end) }
+    ensures one { (scene : SceneValue) (play other : ScenePlay scene) → (play.events ≡ other.events) × (play.state ≡ other.state) }
     ensures begun { (scene : SceneValue) (some other : Playing) → IsBegun scene some → IsBegun scene other → Comes scene some other ⊎ Comes scene other some }
     ensures more { (scene : SceneValue) (playing next : Playing) → IsBegun scene playing → GoesOnTo scene playing next → IsBegun scene next }
 {}
@@ -44,9 +42,8 @@ pub fn a_vsync_is_the_next_of_a_play<L: Lease>()
 pub fn a_step_is_the_next_of_a_play()
     ensures done { (more : StepMore) → next_transition more.actor
         ≡ record { events = event.Reply (reply_shown (reply_of_step more)) ∷ []; state = state_after_step more } }
-    ensures ended { (actor : PickedActor) → next_step actor.state.run actor.script ≡ None → StaysIdle actor }
-    ensures waits { (actor : PickedActor) (s : StepValue) → next_step actor.state.run actor.script ≡ Some s
-        → IsNotReady actor.scene actor.state.run actor.script (Some s) → StaysIdle actor }
+    ensures ended { (actor : PickedActor) → next_step_of actor ≡ None → StaysIdle actor }
+    ensures waits { (actor : PickedActor) (s : StepValue) → next_step_of actor ≡ Some s → IsNotReadyAt actor s → StaysIdle actor }
 {}
 
 /// Over an exact desk that reports places a step that an actor does is its next transition of the

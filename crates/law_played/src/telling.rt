@@ -1,13 +1,13 @@
 //! Laws by which the parts of a played run come together at its end. They are called for their
 //! clauses alone.
-ghost use Rattle.std.specs.Prelude.{List, map};
+ghost use Rattle.std.specs.Prelude.{List};
 ghost use Rattle.sf_record.specs.declared.event.Event.{Event as EventValue};
-ghost use Rattle.law_played.specs.Arrivals.{ArriveInOrder, entry_of};
 ghost use Rattle.law_played.specs.Histories.{Released};
 ghost use Rattle.law_played.specs.Played.{FitsWhere};
 ghost use Rattle.law_played.specs.Replies.{AnswerSteps};
 ghost use Rattle.law_played.specs.Telling.{AreNumbered, TellReplies};
-ghost use Rattle.law_played.specs.SceneActors.{AreHistoriesOver, HaveArrivals, HaveCalls, HaveReleases, SceneActors, ToldRun, arrived_over, histories_over, run_over};
+ghost use Rattle.law_played.specs.SceneActors.{AreHistoriesOver, ArriveInOrderOver, HaveArrivals, HaveCalls, HaveReleases, SceneActors, ToldRun};
+ghost use Rattle.law_played.specs.SceneActors.{arrived_over, entries_over, histories_over, run_over};
 
 use sf_actor::TableName;
 
@@ -19,8 +19,7 @@ pub fn replies_answer_steps<B: TableName>()
 
 /// Arrivals of the actors that are numbered come in their order.
 pub fn arrivals_come_in_order<B: TableName>()
-    ensures { (actors : SceneActors B) → HaveArrivals actors → AreNumbered actors.view.arrivals
-        → ArriveInOrder actors.scene (arrived_over actors) (map entry_of (arrived_over actors)) }
+    ensures { (actors : SceneActors B) → HaveArrivals actors → AreNumbered actors.view.arrivals → ArriveInOrderOver actors (entries_over actors) }
 {}
 
 /// The calls of the actors, and the releases of the compositor, are the histories of the queues.

@@ -10,18 +10,20 @@ use Rattle.sf_actor_set.specs.sf_turns.Views.{SeatView}
 use Rattle.sf_actor_set.specs.sf_actor.Desks.{DeskHome, DeskView, has_queue}
 use Rattle.sf_actor_set.specs.sf_actor.Known.{frame_of}
 use Rattle.sf_actor_set.specs.sf_actor.Makers.{Run}
+use Rattle.sf_actor_set.specs.sf_actor.Names.{Token}
 use Rattle.sf_actor_set.specs.sf_actor.Rights.{turn_by}
 use Rattle.sf_actor_set.specs.sf_actor.Tries.{ActorOf}
 use Rattle.sf_actor_set.specs.sf_actor.Written.{FrameNumber}
 use Rattle.law_played.specs.Actors.{AreActors, run_of}
 use Rattle.law_played.specs.Commits.{is_written}
-use Rattle.law_played.specs.Runs.{written_in}
+use Rattle.law_played.specs.Runs.{StepBy, written_in}
 use Rattle.law_played.specs.Stopping.{TellsOlder}
 use Rattle.law_played.specs.Turns.{maker_at}
 use Rattle.law_rights.specs.Actors.{AreOver}
-use Rattle.law_rights.specs.InTurn.{DrawsStand}
+use Rattle.law_rights.specs.InTurn.{DrawsStand, IsInTurn}
 use Rattle.law_rights.specs.Loads.{WasAcquired}
 use Rattle.law_rights.specs.MakerRuns.{MakersPlay}
+use Rattle.law_rights.specs.Makers.{places_of}
 use Rattle.law_rights.specs.Older.{MakersTell}
 use Rattle.law_rights.specs.Standing.{Begins, LedgerStands, state_of}
 use Rattle.law_rights.specs.States.{State, all_written}
@@ -58,6 +60,10 @@ module _ {B : Type 0} where
   -- what its draws entered is in turn
   abbrev pub HasDraws : SceneValue → RunNow B → Type 0
   HasDraws scene now = DrawsStand scene now.home now.view now.ofs now.handler
+
+  -- what a step enters, by its token, is in turn
+  abbrev pub IsInTurnNow : SceneValue → RunNow B → StepBy → Token → Type 0
+  IsInTurnNow scene now s token = IsInTurn scene (run_now now) (places_of (state_now now)) s token
 
   -- its actors keep what they keep
   abbrev pub ActorsKeep : (ℕ → Picture) → RunNow B → Type 0
@@ -129,6 +135,13 @@ module _ {B : Type 0} where
   -- the frame of a lease is among it
   abbrev pub is_written_by : SceneRun B → ReadLeaseOf → Bool
   is_written_by run lease = is_written (written_by_run run) (frame_of lease)
+
+  -- it was acquired in the run, and a look shows that its write has left
+  abbrev pub WasAcquiredIn : SceneRun B → ReadLeaseOf → Type 0
+  WasAcquiredIn run lease = WasAcquiredNow (at_now run.known) lease
+
+  abbrev pub has_left_in : SceneRun B → ReadLeaseOf → Bool
+  has_left_in run lease = has_left_now (at_now run.known) lease
 
 -- One whose makers stand, seen from the only seat that is out.
 pub record AloneRun (B : Type 0) : Type 0 where

@@ -24,7 +24,7 @@ ghost use Rattle.law_rights.specs.CallChanges.{CallOfState, RepliedCall, TryOfSt
 ghost use Rattle.law_rights.specs.DrawChanges.{EnteredDraw, LookedFrame, OwedFrame, QueuedTwice, ShortDraw, TwoDraws};
 ghost use Rattle.law_rights.specs.RunChanges.{StepOfRun, VsyncOfRun, behind_vsync, run_behind};
 ghost use Rattle.law_rights.specs.RunNow.{BeginsSo, HasActors, HasLedgerOf, IsLeft, KnownRun, RunNow, SceneRun, StandingRun, WasAcquiredNow};
-ghost use Rattle.law_rights.specs.RunNow.{at_now, has_left_now, is_written_by, is_written_now, run_now, written_now};
+ghost use Rattle.law_rights.specs.RunNow.{WasAcquiredIn, at_now, has_left_in, has_left_now, is_written_by, is_written_now, run_now, written_now};
 
 use sf_actor_set::{Lease, ReadLease, TableName};
 
@@ -98,8 +98,8 @@ pub fn a_step_leaves_the_ledger_standing<B: TableName>()
 /// A look at a frame that was acquired shows whether the run has written it.
 pub fn a_look_tells_what_a_run_has_written<B: TableName>()
     ensures same { (scene : SceneValue) (now : RunNow B) → IsWithinLimits scene → HasActors scene now → written_now now ≡ written_in scene (run_now now) }
-    ensures tells { (run : SceneRun B) (lease : ReadLeaseOf) → IsWithinLimits run.scene → let now = at_now run.known in
-        WasAcquiredNow now lease → has_left_now now lease ≡ is_written_by run lease }
+    ensures tells { (run : SceneRun B) (lease : ReadLeaseOf) → IsWithinLimits run.scene → WasAcquiredIn run lease
+        → has_left_in run lease ≡ is_written_by run lease }
 {}
 
 /// A draw that waits for an earlier turn at its pixels waits for a drawing that a name of an actor owes.

@@ -4,18 +4,15 @@ ghost use Rattle.sf_actor_set.specs.sf_script_scene.Limits.{IsWithinLimits};
 ghost use Rattle.sf_actor_set.specs.sf_actor.Holdings.{token_of};
 ghost use Rattle.sf_actor_set.specs.sf_script_scene.Scene.{SceneValue};
 ghost use Rattle.law_played.specs.Turns.{DrawAfterOwed};
-ghost use Rattle.law_rights.specs.InTurn.{IsInTurn};
-ghost use Rattle.law_rights.specs.Makers.{places_of};
 ghost use Rattle.law_rights.specs.DrawChanges.{EnteringDraw, run_at, step_of_draw};
 ghost use Rattle.law_rights.specs.RunChanges.{StepOfDraws, VsyncOfScene, behind_vsync, run_behind};
-ghost use Rattle.law_rights.specs.RunNow.{BeginsSo, CallsAreThere, HasActors, HasDraws, RunNow, run_now, state_now};
+ghost use Rattle.law_rights.specs.RunNow.{BeginsSo, CallsAreThere, HasActors, HasDraws, IsInTurnNow, RunNow, run_now};
 
 use sf_actor_set::{Lease, ReadLease, TableName};
 
 /// A draw that enters pixels is in turn.
 pub fn a_draw_that_enters_is_in_turn<B: TableName>()
-    ensures { (draw : EnteringDraw B) → let now = run_at draw in
-        IsInTurn draw.alone.run.scene (run_now now) (places_of (state_now now)) (step_of_draw draw) (token_of draw.held) }
+    ensures { (draw : EnteringDraw B) → IsInTurnNow draw.alone.run.scene (run_at draw) (step_of_draw draw) (token_of draw.held) }
 {}
 
 /// What draws entered is in turn after a try of an actor's step.

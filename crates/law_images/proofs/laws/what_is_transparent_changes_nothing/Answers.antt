@@ -9,4 +9,4 @@ pub returns-clause-clear : goal.returns-clause-clear
 returns-clause-clear c = clear
 
 pub returns-clause-layers : goal.returns-clause-layers
-returns-clause-layers c = λ pictures tree x y layers. shown_alone pictures tree x y layers opaque_black black_pixel
+returns-clause-layers c = λ pictures tree layers x y. shown_alone pictures tree x y layers opaque_black black_pixel
