@@ -17,7 +17,7 @@ pub fn play<R: Threads + Sync, K: Sink>(
     sink: &mut K,
     scene: Scene,
 ) -> Result<(), RunFault>
-    ensures { PlayEnded scene result (K.taken sink.old) (K.taken sink.new) (K.faults sink.old) (K.faults sink.new) }
+    ensures { PlayEnded K.taken K.faults sink.old sink.new result scene }
 {
     match turns_for(engine.alloc, &scene) {
         Ok((seat, stock)) => show_play::<R, K, Brand>(engine, sink, scene, seat, stock),

@@ -72,16 +72,7 @@ module _ {K B : Type 0} {naming : Naming B} where
       abbrev pub EndsMade : Locks B → FirstSeats B → Type 0
       EndsMade locks before = (start : Compositor K B naming) → Keeps lease table start old locks before → OnErr result (HasEnded lease table start new)
 
-      -- what a compositor keeps, and what is kept with it, it keeps through a visit
-      abbrev pub StaysKept : Type 0 → Locks B → FirstSeats B → FirstSeats B → Type 0
-      StaysKept S locks before after =
-          (start : Compositor K B naming) → S × Keeps lease table start old locks before → OnOk result (S × Keeps lease table start new locks after)
-
-      -- unless it can make no more
-      abbrev pub EndsKept : Type 0 → Locks B → FirstSeats B → Type 0
-      EndsKept S locks before = (start : Compositor K B naming) → S × Keeps lease table start old locks before → OnErr result (HasEnded lease table start new)
-
-      -- with whichever seats it kept it, it keeps it, and nothing is due
+      -- with whichever seats it kept it, it keeps it as its last vsync is shown, and nothing is due
       abbrev pub StaysSettled : Type 0
       StaysSettled =
           (start : Compositor K B naming) (locks : Locks B) (first : FirstSeats B) → Keeps lease table start old locks first

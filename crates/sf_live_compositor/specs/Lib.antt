@@ -2,6 +2,7 @@ pub mod Keeping
 pub mod SeatDesk
 pub mod Sitting
 pub mod Vsyncs
+pub mod inner
 pub use Rattle.sf_play_write.specs.law_play_order
 pub use Rattle.sf_play_write.specs.law_played
 pub use Rattle.sf_live_threads.specs.sf_actor

@@ -7,7 +7,8 @@ ghost use Rattle.sf_play_write.specs.Vsyncs.{AreImagesOf, AreReadableViews, Keep
 ghost use Rattle.sf_live_threads.specs.sf_calls_stamped.Stamps.{unstamped};
 ghost use Rattle.sf_live_compositor.specs.Keeping.{IsSame, sitting_in};
 ghost use Rattle.sf_live_compositor.specs.Vsyncs.{sitting_at};
-ghost use Rattle.sf_live_compositor.specs.Sitting.{HasAll, MadeLent, MadeOne, MakesNext, MayMake, ShowsBuffers};
+ghost use Rattle.sf_live_compositor.specs.Sitting.{HasAll, MadeOne, MakesNext, MayMake, ShowsBuffers};
+ghost use Rattle.sf_live_compositor.specs.inner.Visits.{MadeLentIn, MadeOneIn};
 
 use crate::compositor::Compositor;
 use crate::vsync::{MadeVsync, make_vsync};
@@ -105,8 +106,7 @@ fn compose_and_make<R: Threads + Wait + Sync, B: TableName>(
     requires next { MayMake B.table visit.now.locks.now visit.now.period (sitting_at handler.old seats.old visit.now.before) }
     ensures images { IfOk result.0 (λ images. AreImagesOf (map (λ p. p) contents.now) views.items screens.old images.items) }
     ensures shown { KeepsShown screens.old screens.new }
-    ensures makes { MadeLent ⟦<ReadLease<B> as Lease>⟧ B.table visit.now.locks.now visit.now.period
-        (sitting_at handler.old seats.old visit.now.before) (sitting_at handler.new seats.new (visit.now.before + 1)) result.1 }
+    ensures makes { MadeLentIn ⟦<ReadLease<B> as Lease>⟧ B.table visit.now (handler.old, seats.old) (handler.new, seats.new) result.1 }
     ensures known { OnOk result.1 (handler.new.last ≤ taken_in (unstamped seats.new.arrivals.seen)) }
     ensures early { OnOk result.1 (seats.new.last.step ≤ visit.now.before + 1) }
     ensures lent { handler.new.lent ≡ handler.old.lent }
@@ -145,8 +145,7 @@ fn make_beside<R: Threads + Wait + Sync, B: TableName>(
     requires readable { AreReadableViews (map expected_by handler.old.on) views.items }
     ensures images { IfOk result.0 (λ images. AreImagesOf (map expected_by handler.old.on) views.items screens.old images.items) }
     ensures shown { KeepsShown screens.old screens.new }
-    ensures makes { MadeOne ⟦<ReadLease<B> as Lease>⟧ B.table visit.now.locks.now visit.now.period
-        (sitting_at handler.old seats.old visit.now.before) (sitting_at handler.new seats.new (visit.now.before + 1)) result.1 }
+    ensures makes { MadeOneIn ⟦<ReadLease<B> as Lease>⟧ B.table visit.now (handler.old, seats.old) (handler.new, seats.new) result.1 }
     ensures known { OnOk result.1 (handler.new.last ≤ taken_in (unstamped seats.new.arrivals.seen)) }
     ensures early { OnOk result.1 (seats.new.last.step ≤ visit.now.before + 1) }
     ensures all { HasAll handler.new }

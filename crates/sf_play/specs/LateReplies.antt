@@ -7,6 +7,7 @@ use Rattle.sf_play_report.specs.sf_record.declared.record.Record.{Record}
 use Rattle.sf_play_report.specs.law_played.Played.{FitsWhere, PlayedLiveWhere, records_of}
 use Rattle.sf_play.specs.Alongs.{DeskKnows}
 use Rattle.sf_play.specs.Ending.{shows_late}
+use Rattle.sf_play.specs.Going.{EndsRun}
 use Rattle.sf_play.specs.Players.{PlayerOf, SoFar, arrived_at, home_in, run_so}
 use Rattle.sf_play.specs.Standing.{StandsInRun}
 use Rattle.sf_play.specs.declared.place.Place.TheVariants as at
@@ -30,3 +31,12 @@ module _ {B : Type 0} where
   -- they are those of a live run, where their numbers fit their fields
   abbrev pub IsPlayedLate : SceneValue → SoFar B → PlayerOf B → Type 0
   IsPlayedLate scene so player = All RecordFits (late_records scene so player) → PlayedLiveWhere (home_in player.play).tells scene (late_records scene so player)
+
+-- a run in which a player stands, where what the player has shown at its end fits it
+pub record EndedRun (B : Type 0) : Type 0 where
+  pub table : TableId
+  pub scene : SceneValue
+  pub so : SoFar B
+  pub player : PlayerOf B
+  pub stands : StandsInRun table scene so player
+  pub ends : EndsRun scene so player

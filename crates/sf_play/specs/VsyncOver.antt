@@ -2,13 +2,12 @@
 use Rattle.std.specs.Prelude.{◌≡◌, ℕ, List, [], ◌∷◌, All}
 use Rattle.sf_base.specs.declared.fences.Seen.{Seen}
 use Rattle.sf_play_report.specs.declared.report.VsyncReport.{VsyncReport}
-use Rattle.sf_play_report.specs.sf_commit.Handlers.{HandlerOf, last_of}
+use Rattle.sf_play_report.specs.sf_commit.Handlers.{HandlerOf}
 use Rattle.sf_play_report.specs.sf_commit.Releases.{CommittedOf, ReleaseOf}
 use Rattle.sf_play_report.specs.sf_surface.Tokens.{ReadLeaseOf}
-use Rattle.sf_play_report.specs.sf_token.Pending.{Arrival, IsRisingFrom}
 use Rattle.sf_play_report.specs.sf_turns.Views.{SeatView}
 use Rattle.sf_play_report.specs.sf_txn.declared.lease.Lease.{Ghosts as LeaseIn}
-use Rattle.sf_play.specs.Deciding.{DecidesBy}
+use Rattle.sf_play.specs.Deciding.{DecidesBy, NextRises}
 use Rattle.sf_play.specs.declared.desk.CompositorDesk.{Ghosts as DeskIn}
 use Rattle.sf_play.specs.declared.outcome.VsyncOutcome.{VsyncOutcome}
 
@@ -17,16 +16,14 @@ abbrev pub InTurn : {A S : Type 0} → (A → S → S → Type 0) → List A →
 InTurn does [] old new = new ≡ old
 InTurn {S = S} does (one ∷ later) old new = (mid : S) × does one old mid × InTurn does later mid new
 
--- the report of a vsync of this number, whose frame was expected at this time, which saw this and told this
+-- the report of a vsync of this number, with the time at which its frame was expected, what it saw, and what it committed
 abbrev pub reported : ℕ → ℕ → Seen → CommittedOf ReadLeaseOf → VsyncReport
 reported number expected seen told = record { number = number; expected = expected; seen = seen; commits = told.commits }
 
 module _ {S W B : Type 0} (desk : DeskIn S W B (ReleaseOf ReadLeaseOf)) (with : W) where
-  -- what is taken next rises above all that the handler took before
+  -- what is taken next, after a look at the timelines, rises above all that the handler took before
   abbrev pub TakesRising : S → HandlerOf ReadLeaseOf → Type 0
-  TakesRising old handler =
-      (looked : S) (seen : Seen) → desk.sees with old seen looked → (took : S) (arrived : List (Arrival ReadLeaseOf)) → desk.takes with looked arrived took
-      → IsRisingFrom handler.last arrived (last_of handler.last arrived)
+  TakesRising old handler = (looked : S) (seen : Seen) → desk.sees with old seen looked → NextRises (desk.takes with) looked handler
 
   module _ {R C : Type 0} (lease : LeaseIn ReadLeaseOf SeatView R C) (expected : ℕ) where
     -- a compositor has looked at the timelines, taken what arrived, and decided

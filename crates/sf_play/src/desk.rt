@@ -2,11 +2,10 @@
 //! compositor's seats among threads.
 ghost use Rattle.std.specs.Prelude.{◌≡◌, ℕ, List, IfOk, OnOk};
 ghost use Rattle.sf_base.specs.declared.fences.Seen.{Seen as SeenValue};
-ghost use Rattle.sf_play_report.specs.sf_commit.Handlers.{last_of};
 ghost use Rattle.sf_play_report.specs.sf_surface.Tokens.{ReadLeaseOf};
-ghost use Rattle.sf_play_report.specs.sf_token.Pending.{Arrival, IsRisingFrom};
+ghost use Rattle.sf_play_report.specs.sf_token.Pending.{Arrival};
 ghost use Rattle.sf_play_report.specs.sf_turns.Views.{SeatView};
-ghost use Rattle.sf_play.specs.Deciding.{DecidesBy};
+ghost use Rattle.sf_play.specs.Deciding.{DecidesBy, NextRises};
 
 use sf_base::{NoMemory, Seen};
 use sf_play_report::{Committed, Handler, Lease, ReadLease, TableName};
@@ -50,8 +49,7 @@ pub trait CompositorDesk<W, B: TableName, F> {
         expected: u64,
     ) -> Result<(usize, Committed<ReadLease<B>>), NoMemory>
         requires stands { stands with.now self.old }
-        requires rising { (took : Self) (arrived : List (Arrival ReadLeaseOf)) → takes with.now self.old arrived took
-            → IsRisingFrom handler.old.last arrived (last_of handler.old.last arrived) }
+        requires rising { NextRises (takes with.now) self.old handler.old }
         ensures stands { stands with.now self.new }
         ensures decides { IfOk result (λ made. DecidesBy (takes with.now) eye decides ⟦<ReadLease<B> as Lease>⟧ expected
             self.old handler.old seen.now made.1 handler.new self.new) }

@@ -1,16 +1,13 @@
 //! Laws about players, called for their clauses alone: what a caller who plays or joins threads
 //! learns of the run besides the clauses of `next`.
-ghost use Rattle.std.specs.Prelude.{◌≤◌, List};
+ghost use Rattle.std.specs.Prelude.{◌≤◌};
 ghost use Rattle.atomic_table.specs.Seated.{TableId};
 ghost use Rattle.sf_script_scene.specs.Scene.{SceneValue};
-ghost use Rattle.sf_play_report.specs.sf_actor.Tries.{ActorOf};
 ghost use Rattle.sf_play.specs.Fuel.{HasNumbersLeft};
 ghost use Rattle.sf_play.specs.Going.{EndsRun};
-ghost use Rattle.sf_play.specs.LateReplies.{FitsLate, IsPlayedLate, StandsAtEnd};
+ghost use Rattle.sf_play.specs.LateReplies.{EndedRun, FitsLate, IsPlayedLate, StandsAtEnd};
 ghost use Rattle.sf_play.specs.Players.{PlayOf, PlayerOf, SoFar, Stands};
-ghost use Rattle.sf_play.specs.Standing.{StandsInRun};
-ghost use Rattle.sf_play.specs.Actions.{StepsOnlyNext, TakesAction, TriesOnlyNext};
-ghost use Rattle.sf_play.specs.declared.action.Action.{Action as ActionOf};
+ghost use Rattle.sf_play.specs.Actions.{StepsOnlyNext, TakenAction, TriesOnlyNext};
 
 use sf_play_report::{Lease, ReadLease, TableName};
 
@@ -24,10 +21,8 @@ pub fn the_vsyncs_of_rounds_can_be_numbered<B: TableName>()
 /// The actor that `Player::next_actor` names is the one whose step the next action tries, and no other
 /// does a step.
 pub fn the_next_actor_is_the_one_that_is_tried<B: TableName>()
-    ensures tried { (ofs : List (ActorOf B)) (old new : PlayerOf B) (came_to : ActionOf)
-        → TakesAction ⟦<ReadLease<B> as Lease>⟧ B.table ofs old new came_to → TriesOnlyNext B.table ofs old new came_to }
-    ensures no_other { (ofs : List (ActorOf B)) (old new : PlayerOf B) (came_to : ActionOf)
-        → TakesAction ⟦<ReadLease<B> as Lease>⟧ B.table ofs old new came_to → StepsOnlyNext old came_to }
+    ensures tried { (action : TakenAction B ⟦<ReadLease<B> as Lease>⟧ B.table) → TriesOnlyNext B.table action.ofs action.old action.new action.came_to }
+    ensures no_other { (action : TakenAction B ⟦<ReadLease<B> as Lease>⟧ B.table) → StepsOnlyNext action.old action.came_to }
 {}
 
 /// No matter which threads did the steps of a run: where a player that stands in it is at its end,
@@ -39,8 +34,6 @@ pub fn what_stands_at_its_end_fits<B: TableName>()
 /// So it does where the replies are shown behind the last vsync, by actor and step; these are the
 /// records of a live run.
 pub fn replies_may_be_shown_last<B: TableName>()
-    ensures fits { (table : TableId) (scene : SceneValue) (so : SoFar B) (player : PlayerOf B) → StandsInRun table scene so player → EndsRun scene so player
-        → FitsLate scene so player }
-    ensures live { (table : TableId) (scene : SceneValue) (so : SoFar B) (player : PlayerOf B) → StandsInRun table scene so player → EndsRun scene so player
-        → IsPlayedLate scene so player }
+    ensures fits { (run : EndedRun B) → FitsLate run.scene run.so run.player }
+    ensures live { (run : EndedRun B) → IsPlayedLate run.scene run.so run.player }
 {}

@@ -1,3 +1,4 @@
+pub mod Closings
 pub mod Reports
 pub mod Stages
 pub mod inner

@@ -81,3 +81,8 @@ pub record AreSourced (plan : Plan) (tree : TreeOf) (contents : List Picture) (v
 -- each layer of each of these views finds its picture among those of the buffers on layers
 abbrev pub AllFindPictures : {L : Type 0} → (OnLayer L → Picture) → (ℕ → Picture) → HandlerOf L → List (Output SourcedView) → Type 0
 AllFindPictures expects pictures handler views = All (OfImage (FindsPictures pictures (map expects handler.on))) views
+
+-- whatever pictures the numbers of the buffers on layers stand for, each layer of each of these views finds its own
+abbrev pub AllFindExpected : {L : Type 0} → (OnLayer L → Picture) → HandlerOf L → List (Output SourcedView) → Type 0
+AllFindExpected expects handler views =
+    (pictures : ℕ → Picture) → AreExpected expects pictures handler → AllFindPictures expects pictures handler views

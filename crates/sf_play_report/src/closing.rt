@@ -4,9 +4,7 @@ ghost use Rattle.std.specs.Prelude.{◌≡◌, IfOk, map};
 ghost use Rattle.law_played.specs.sf_record.declared.record.Record.TheVariants as rec;
 ghost use Rattle.law_played.specs.Progress.{held_shown};
 ghost use Rattle.law_played.specs.Telling.{arrival_recorded, call_recorded};
-ghost use Rattle.law_played.specs.sf_surface.Histories.{told};
-ghost use Rattle.law_played.specs.sf_surface.Objects.{mark_of};
-ghost use Rattle.law_played.specs.sf_surface.Shown.{entries_of};
+ghost use Rattle.sf_play_report.specs.Closings.{history_of};
 
 use law_played::{
     ArrivalEntry, ArrvEntry, HeldEntry, HistEntry, HistoryEntry, Hold, QueueHistory, QueueObject,
@@ -64,10 +62,7 @@ pub fn history_record<B: TableName>(
     alloc: Global,
     object: &QueueObject<B>,
 ) -> Result<Record, NoMemory>
-    ensures { IfOk result (λ written. written ≡ rec.Hist (record {
-      queue = object.now.queue.number.0;
-      entries = map call_recorded (entries_of (told (mark_of object.now) object.now.calls));
-    })) }
+    ensures { IfOk result (λ written. written ≡ rec.Hist (history_of object.now)) }
 {
     let entries = Items::new(calls_of(alloc, object.entries())?);
     Ok(Record::Hist(QueueHistory {

@@ -6,9 +6,8 @@ ghost use Rattle.law_played.specs.sf_output.Outputs.{IsOutput, OfImage};
 ghost use Rattle.law_played.specs.sf_commit.Standing.{Stands};
 ghost use Rattle.law_played.specs.sf_output_plan.Due.{IsFrameDue, frame_due};
 ghost use Rattle.law_played.specs.sf_output_shown.Copies.{written};
-ghost use Rattle.law_played.specs.sf_picture.declared.picture.Picture.{Picture};
 ghost use Rattle.law_played.specs.sf_view.Views.{IsDisplay, Views};
-ghost use Rattle.sf_play_report.specs.Stages.{AllFindPictures, AllShowOn, AreExpected, AreSourced, AreSourcesOf, IsSourceOf, IsSourcedBy, IsSourcedDue, IsStage, ShowsOn};
+ghost use Rattle.sf_play_report.specs.Stages.{AllFindExpected, AllShowOn, AreSourced, AreSourcesOf, IsSourceOf, IsSourcedBy, IsSourcedDue, IsStage, ShowsOn};
 ghost use Rattle.law_played.specs.sf_view.declared.drawn.Drawn.{Drawn as DrawnOf};
 
 use crate::sourced::SourcedView;
@@ -154,8 +153,7 @@ where
     L::Reading: Drop,
     requires { IsStage (λ one. L.picture one.lease) plan.now handler.now }
     ensures views { IfOk result (λ views. AreSourced plan.now handler.now.tree (map (λ one. L.picture one.lease) handler.now.on) views.items) }
-    ensures found { (pictures : ℕ → Picture) → AreExpected (λ one. L.picture one.lease) pictures handler.now
-        → IfOk result (λ views. AllFindPictures (λ one. L.picture one.lease) pictures handler.now views.items) }
+    ensures found { IfOk result (λ views. AllFindExpected (λ one. L.picture one.lease) handler.now views.items) }
 {
     let tree = handler.tree();
     tree.layers();

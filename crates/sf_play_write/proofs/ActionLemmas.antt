@@ -1,5 +1,5 @@
 -- The records of actions, and how far a play has been written.
-use Rattle.std.proofs.Common.{◌≡◌, ℕ, suc, ◌-◌, ◌<◌, ◌≤◌, Bool, true, false, ◌||◌, if◌then◌else◌, List, [], ◌∷◌, ◌++◌, length, get_or, map, filter, Option, Some, refl, ap, ◌∙◌, sym, subst, arith}
+use Rattle.std.proofs.Common.{◌≡◌, ℕ, suc, ◌-◌, ◌<◌, ◌≤◌, Bool, true, false, ◌||◌, if◌then◌else◌, List, [], ◌∷◌, ◌++◌, length, get_or, map, filter, Option, Some, Result, Ok, Err, refl, ap, ◌∙◌, sym, subst, arith, OnErr, OnOk}
 use Rattle.std.specs.Prelude.{All, Contains, ◌==◌, slice_get}
 use Rattle.std.specs.List.{flat_map, list_any, range_with_len}
 use Rattle.std.proofs.lemmas.Bool.{false≢true}
@@ -21,6 +21,7 @@ use Rattle.sf_play.specs.sf_record.Events.{event_records, events_records, vsync_
 use Rattle.sf_play.specs.sf_record.declared.event.Event.{Event}
 use Rattle.sf_play.specs.sf_record.declared.event.Event.TheVariants as event
 use Rattle.sf_play.specs.sf_record.declared.event.VsyncRecords.{VsyncRecords}
+use Rattle.sf_play.specs.sf_record.declared.encode.RunFault.{RunFault}
 use Rattle.sf_play.specs.sf_record.declared.record.Record.{Record}
 use Rattle.sf_play.specs.sf_record.declared.record.Record.TheVariants as rec
 use Rattle.sf_play.specs.sf_output_plan.declared.plan.Plan.{Plan}
@@ -38,6 +39,7 @@ use Rattle.sf_play.specs.law_played.Replies.{reply_shown}
 use Rattle.sf_play.specs.law_played.Seeing.{value_shown}
 use Rattle.sf_play.specs.law_played.Vsyncs.{rising_timelines}
 use Rattle.sf_output_screen.specs.ScreenLists.{AreShown}
+use Rattle.sf_output_screen.specs.declared.screens.OutputScreen.{OutputScreen}
 use Rattle.sf_play.specs.Going.{GoesAlong, LeavesLess, fuel_of}
 use Rattle.sf_play.specs.Happening.{VsyncHappens}
 use Rattle.sf_play.specs.Players.{PlayOf, PlayerOf, SoFar}
@@ -49,7 +51,7 @@ use Rattle.sf_play_write.specs.declared.shows.Shows.{Shows}
 use Rattle.sf_play_write.specs.Runs.{CutRun}
 use Rattle.sf_play_write.specs.Showing.{IsOfScene, Written}
 use Rattle.sf_play.specs.Actions.{is_end}
-use Rattle.sf_play_write.specs.inner.Rows.{HasWritten, IsWriting, MayShowAction, newest_of, newest_shown, action_shown}
+use Rattle.sf_play_write.specs.inner.Rows.{CutsAction, HasWritten, IsWriting, MayShowAction, WritesAction, newest_of, newest_shown, action_shown}
 use Rattle.sf_play_write.specs.Vsyncs.{records_if, told_with}
 use Rattle.sf_play_write.specs.Writing.{Writes, WritesPart}
 use Rattle.sf_play_write.proofs.WritingLemmas.{part_front, part_more, writes_more}
@@ -199,3 +201,18 @@ module _ {B : Type 0} where
       cut_so_far table scene start now goes.later player goes.stands
       (subst (WritesPart start now) (ap (λ (rs : List Record). opening scene ∷ rs) (action_records table scene shows w.so came_to player w.asked goes))
       (part_more start before.taken now (opening scene ∷ events_records w.so.events) records w.written part))
+
+  -- where each scene's records of an action were written by a call, or a prefix of them
+  pub written_each : (result : Result (Unit {0}) RunFault) (shows : Shows) (player : PlayerOf B) (came_to : Action) (old new : Option (List ℕ)) (screens shown : List OutputScreen)
+      → ((scene : SceneValue) → MayShowAction scene came_to player → AreShown (picture_at scene.pictures) screens
+      → OnOk result (Writes old new (action_shown (picture_at scene.pictures) shows player.play came_to) × AreShown (picture_at scene.pictures) shown))
+      → OnOk result (WritesAction shows player came_to old new screens shown)
+  written_each (Ok done) shows player came_to old new screens shown each = each
+  written_each (Err fault) shows player came_to old new screens shown each = tt
+
+  pub cut_each : (result : Result (Unit {0}) RunFault) (shows : Shows) (player : PlayerOf B) (came_to : Action) (old new : Option (List ℕ)) (screens : List OutputScreen)
+      → ((scene : SceneValue) → MayShowAction scene came_to player → AreShown (picture_at scene.pictures) screens
+      → OnErr result (WritesPart old new (action_shown (picture_at scene.pictures) shows player.play came_to)))
+      → OnErr result (CutsAction shows player came_to old new screens)
+  cut_each (Ok done) shows player came_to old new screens each = tt
+  cut_each (Err fault) shows player came_to old new screens each = each

@@ -37,7 +37,8 @@ use Rattle.sf_play.specs.law_played.Telling.{arrival_recorded}
 use Rattle.sf_play.specs.Ending.{shows_at_end}
 use Rattle.sf_play.specs.Players.{PlayerOf, SoFar, home_in, run_so}
 use Rattle.sf_play.specs.Standing.{StandsInRun}
-use Rattle.sf_play_write.specs.Closings.{closing_of, history_of, stuck_at, stuck_entry}
+use Rattle.sf_play.specs.sf_play_report.Closings.{history_of}
+use Rattle.sf_play_write.specs.Closings.{closing_of, stuck_at, stuck_entry}
 
 -- numbers each of which stands once
 abbrev pub Apart : List ℕ → Type 0

@@ -1,16 +1,13 @@
 -- What is written at the end of a play.
 use Rattle.std.specs.Prelude.{◌+◌, nat_lt, if◌then◌else◌, List, length, map, Option, None, Some, filter_map}
-use Rattle.sf_play.specs.sf_surface.Histories.{told}
-use Rattle.sf_play.specs.sf_surface.Objects.{ObjectOf, mark_of}
-use Rattle.sf_play.specs.sf_surface.Shown.{entries_of}
 use Rattle.sf_play.specs.sf_token.Arrivals.{entry_of, sent}
 use Rattle.sf_play.specs.sf_actor_steps.declared.actor.Actor.{Actor}
 use Rattle.sf_play.specs.sf_record.Events.{closing}
-use Rattle.sf_play.specs.sf_record.declared.record.QueueHistory.{QueueHistory}
 use Rattle.sf_play.specs.sf_record.declared.record.Record.{Record}
 use Rattle.sf_play.specs.sf_record.declared.record.StuckEntry.{StuckEntry}
+use Rattle.sf_play.specs.sf_play_report.Closings.{history_of}
 use Rattle.sf_play.specs.law_played.Progress.{held_shown}
-use Rattle.sf_play.specs.law_played.Telling.{arrival_recorded, call_recorded}
+use Rattle.sf_play.specs.law_played.Telling.{arrival_recorded}
 use Rattle.sf_play.specs.Players.{PlayerOf}
 
 module _ {B : Type 0} where
@@ -22,10 +19,6 @@ module _ {B : Type 0} where
 
   abbrev pub stuck_at : List (Actor B) → List StuckEntry
   stuck_at actors = filter_map stuck_entry actors
-
-  -- the calls on a queue
-  abbrev pub history_of : ObjectOf B → QueueHistory
-  history_of object = record { queue = object.queue.number.0; entries = map call_recorded (entries_of (told (mark_of object) object.calls)) }
 
   -- the records that end a play: what arrived, the history of each queue, what is held and who is stuck
   abbrev pub closing_of : PlayerOf B → List Record

@@ -20,6 +20,7 @@ pub record CutRun (scene : SceneValue) (old new : Option (List ℕ)) : Type 0 wh
   pub is_play : ArePlayRecords scene records
   pub written : WritesPart old new records
 
--- how a play ended that wrote behind this output; the counts are those of the sink's faults
-abbrev pub PlayEnded : {A : Type 0} → SceneValue → Result A RunFault → Option (List ℕ) → Option (List ℕ) → ℕ → ℕ → Type 0
-PlayEnded scene result start now before after = WritingEnded result before after (λ _. WroteRun scene start now) (CutRun scene start now)
+-- how the play of a scene ended: its records were written to the sink, or a prefix of them
+abbrev pub PlayEnded : {S A : Type 0} → (S → Option (List ℕ)) → (S → ℕ) → S → S → Result A RunFault → SceneValue → Type 0
+PlayEnded taken faults old new result scene =
+    WritingEnded result (faults old) (faults new) (λ _. WroteRun scene (taken old) (taken new)) (CutRun scene (taken old) (taken new))

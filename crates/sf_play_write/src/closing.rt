@@ -3,7 +3,8 @@
 ghost use Rattle.std.specs.Prelude.{◌≡◌, ◌≤◌, ◌∷◌, ◌++◌, [], All, IfOk, OnOk, length, map, option_to_list};
 ghost use Rattle.sf_play.specs.sf_record.declared.record.Record.TheVariants as rec;
 ghost use Rattle.sf_play.specs.law_played.Progress.{held_shown};
-ghost use Rattle.sf_play_write.specs.Closings.{closing_of, history_of, stuck_at, stuck_entry};
+ghost use Rattle.sf_play.specs.sf_play_report.Closings.{history_of};
+ghost use Rattle.sf_play_write.specs.Closings.{closing_of, stuck_at, stuck_entry};
 ghost use Rattle.sf_play_write.specs.Writing.{Wrote};
 ghost use Rattle.sf_play.specs.sf_actor_steps.declared.actor.Actor.{Actor as ActorIn};
 

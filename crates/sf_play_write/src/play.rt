@@ -1,14 +1,13 @@
 //! A whole play: the record that it begins with, one action of the player after another with the
 //! records of what it did, and the records that end it. It is what `sf_app` calls for a scene that
 //! is played on one thread.
-ghost use Rattle.std.specs.Prelude.{◌≡◌, ◌≤◌, [], All, IsErrOf, true};
+ghost use Rattle.std.specs.Prelude.{◌≡◌, ◌≤◌, [], All, true};
 ghost use Rattle.sf_play.specs.sf_actor_set.Scripts.{permits_of};
-ghost use Rattle.sf_io.specs.Causes.{Rose};
 ghost use Rattle.sf_play.specs.law_played.Frames.{plan_of};
 ghost use Rattle.sf_play.specs.law_played.Played.{opening};
 ghost use Rattle.sf_play.specs.sf_script_scene.Scene.{SceneValue};
 ghost use Rattle.sf_play_write.specs.Runs.{PlayEnded};
-ghost use Rattle.sf_play_write.specs.inner.Rows.{CutsAction, IsReady, MayShowAction, WritesAction, newest_shown};
+ghost use Rattle.sf_play_write.specs.inner.Rows.{ActionEnded, IsReady, MayShowAction, newest_shown};
 ghost use Rattle.sf_play_write.specs.Writing.{Wrote};
 ghost use Rattle.sf_play.specs.sf_turns.Counts.{range};
 
@@ -58,10 +57,7 @@ fn write_action<R: Threads + Sync, K: Sink, B: TableName>(
 ) -> Result<(), RunFault>
     requires timelines { All (λ timeline. (1 ≤ timeline) × (timeline ≤ 64)) shows.now.timelines.items }
     requires may { (scene : SceneValue) × (shows.now.plan ≡ plan_of scene) × MayShowAction scene action player.now }
-    ensures ok { WritesAction shows.now player.now action (K.taken sink.old) (K.taken sink.new) screens.old screens.new result }
-    ensures err { CutsAction shows.now player.now action (K.taken sink.old) (K.taken sink.new) screens.old result }
-    ensures later { K.faults sink.old ≤ K.faults sink.new }
-    ensures failed { IsErrOf result RunFault.WriteFault → Rose (K.faults sink.old) (K.faults sink.new) }
+    ensures { ActionEnded K.taken K.faults shows.now player.now action (sink.old, screens.old) (sink.new, screens.new) result }
 {
     match action {
         Action::Step(place) => write_newest(
@@ -93,7 +89,7 @@ fn write_play<R: Threads + Sync, K: Sink, B: TableName>(
 ) -> Result<(), RunFault>
     requires ready { (scene : SceneValue) × IsReady B.table scene shows.now first player.old }
     ensures { (scene : SceneValue) → IsReady B.table scene shows.now first player.old
-        → PlayEnded scene result (K.taken sink.old) (K.taken sink.new) (K.faults sink.old) (K.faults sink.new) }
+        → PlayEnded K.taken K.faults sink.old sink.new result scene }
 {
     match write_made(engine.alloc, sink, Ok(first)) {
         Ok(()) => {}
@@ -132,7 +128,7 @@ pub fn show_play<R: Threads + Sync, K: Sink, B: TableName>(
     requires fresh { seat.leaves ≡ [] }
     requires whole { stock.buffers ≡ range 0 (permits_of scene.actors) }
     requires sized { permits_of scene.actors ≤ B.table.slots }
-    ensures { PlayEnded scene result (K.taken sink.old) (K.taken sink.new) (K.faults sink.old) (K.faults sink.new) }
+    ensures { PlayEnded K.taken K.faults sink.old sink.new result scene }
 {
     let shows = match Shows::of_scene(engine.alloc, &scene) {
         Ok(shows) => shows,

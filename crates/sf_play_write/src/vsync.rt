@@ -10,7 +10,7 @@ ghost use Rattle.sf_output_screen.specs.sf_picture.declared.picture.Picture.{Pic
 ghost use Rattle.sf_play.specs.sf_record.Events.{image_record};
 ghost use Rattle.sf_play.specs.sf_record.declared.record.Record.TheVariants as rec;
 ghost use Rattle.sf_play.specs.sf_play_report.Reports.{has_commits};
-ghost use Rattle.sf_play.specs.sf_play_report.Stages.{AreExpected, IsReadableView, IsStage, is_accepted};
+ghost use Rattle.sf_play.specs.sf_play_report.Stages.{AllFindExpected, IsReadableView, IsStage, is_accepted};
 ghost use Rattle.sf_play.specs.law_played.Commits.{commit_shown};
 ghost use Rattle.sf_output_screen.specs.ScreenLists.{AreShown};
 ghost use Rattle.sf_output_screen.specs.Screens.{IsShown};
@@ -18,7 +18,6 @@ ghost use Rattle.sf_play_write.specs.Vsyncs.{
   AreViewsDue,
   CutsPictured,
   CutsVsync,
-  FindPictures,
   HasView,
   WritesPictured,
   WritesVsync,
@@ -179,8 +178,7 @@ where
     requires { IsStage (λ one. L.picture one.lease) plan.now handler.now }
     ensures due { IfOk result (λ views. AreViewsDue plan.now handler.now.tree.layers report.now.commits views.items) }
     ensures readable { IfOk result (λ views. All (OfImage (IsReadableView (map (λ one. L.picture one.lease) handler.now.on))) views.items) }
-    ensures found { (pictures : ℕ → Picture) → AreExpected (λ one. L.picture one.lease) pictures handler.now
-        → IfOk result (λ views. FindPictures pictures (map (λ one. L.picture one.lease) handler.now.on) views.items) }
+    ensures found { IfOk result (λ views. AllFindExpected (λ one. L.picture one.lease) handler.now views.items) }
 {
     if !shows_frame(report.commits.as_slice()) {
         return Ok(Vec::new(alloc));

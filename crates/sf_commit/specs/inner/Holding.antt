@@ -29,7 +29,7 @@ module _ {L : Type 0} where
     abbrev pub told_in : Arrival L → Option (ℕ × Hold)
     told_in arrived = option_map (λ h. (arrived.number, h)) (hold_in arrived)
 
-    -- what is told of the transaction that was looked at
+    -- what is reported of the transaction that was looked at
     abbrev pub told_by : Looks → Option (ℕ × Hold)
     told_by look = option_and_then told_in (found_by pending look)
 

@@ -1,5 +1,5 @@
 -- What is written of the actions of a play.
-use Rattle.std.specs.Prelude.{◌≡◌, ℕ, ◌<◌, List, [], ◌∷◌, length, Option, None, Some, slice_get, Result, OnErr, OnOk}
+use Rattle.std.specs.Prelude.{◌≡◌, ℕ, ◌<◌, List, [], ◌∷◌, length, Option, None, Some, slice_get, Result}
 use Rattle.atomic_table.specs.Seated.{TableId}
 use Rattle.sf_output_screen.specs.sf_picture.declared.picture.Picture.{Picture}
 use Rattle.sf_play.specs.sf_script_scene.Scene.{SceneValue}
@@ -22,7 +22,7 @@ use Rattle.sf_play.specs.declared.action.Action.TheVariants as action
 use Rattle.sf_play_write.specs.declared.shows.Shows.{Shows}
 use Rattle.sf_play_write.specs.Showing.{IsOfScene, Written}
 use Rattle.sf_play_write.specs.Vsyncs.{vsync_shown}
-use Rattle.sf_play_write.specs.Writing.{Writes, WritesPart}
+use Rattle.sf_play_write.specs.Writing.{Writes, WritesPart, WritingEnded}
 
 -- the record of the newest reply, if there is one
 abbrev pub newest_shown : List Reply → List Record
@@ -48,17 +48,23 @@ module _ {B : Type 0} where
   MayShowAction scene other player = Unit {0}
 
   -- what was written of an action that a player came to, where it can be shown: all of its records, and the screens show images still
-  abbrev pub WritesAction : {A : Type 0} → Shows → PlayerOf B → Action → Option (List ℕ) → Option (List ℕ) → List OutputScreen → List OutputScreen
-      → Result A RunFault → Type 0
-  WritesAction shows player came_to old new screens shown result =
+  abbrev pub WritesAction : Shows → PlayerOf B → Action → Option (List ℕ) → Option (List ℕ) → List OutputScreen → List OutputScreen → Type 0
+  WritesAction shows player came_to old new screens shown =
       (scene : SceneValue) → MayShowAction scene came_to player → AreShown (picture_at scene.pictures) screens
-      → OnOk result (Writes old new (action_shown (picture_at scene.pictures) shows player.play came_to) × AreShown (picture_at scene.pictures) shown)
+      → Writes old new (action_shown (picture_at scene.pictures) shows player.play came_to) × AreShown (picture_at scene.pictures) shown
 
   -- after a fault, a prefix of these
-  abbrev pub CutsAction : {A : Type 0} → Shows → PlayerOf B → Action → Option (List ℕ) → Option (List ℕ) → List OutputScreen → Result A RunFault → Type 0
-  CutsAction shows player came_to old new screens result =
+  abbrev pub CutsAction : Shows → PlayerOf B → Action → Option (List ℕ) → Option (List ℕ) → List OutputScreen → Type 0
+  CutsAction shows player came_to old new screens =
       (scene : SceneValue) → MayShowAction scene came_to player → AreShown (picture_at scene.pictures) screens
-      → OnErr result (WritesPart old new (action_shown (picture_at scene.pictures) shows player.play came_to))
+      → WritesPart old new (action_shown (picture_at scene.pictures) shows player.play came_to)
+
+  -- how the writing of an action ended, from one sink and its screens to the other
+  abbrev pub ActionEnded : {S A : Type 0} → (S → Option (List ℕ)) → (S → ℕ) → Shows → PlayerOf B → Action → S × List OutputScreen → S × List OutputScreen
+      → Result A RunFault → Type 0
+  ActionEnded taken faults shows player came_to old new result =
+      WritingEnded result (faults old.0) (faults new.0) (λ _. WritesAction shows player came_to (taken old.0) (taken new.0) old.1 new.1)
+      (CutsAction shows player came_to (taken old.0) (taken new.0) old.1)
 
   -- What a play has shown so far is written behind what was there: the player stands along with the play of the scene, and each
   -- screen has its last frame.

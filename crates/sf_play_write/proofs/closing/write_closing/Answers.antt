@@ -11,7 +11,8 @@ use Rattle.sf_play.specs.sf_record.declared.record.Record.{Record}
 use Rattle.sf_play.specs.sf_record.declared.record.Record.TheVariants as rec
 use Rattle.sf_play.specs.law_played.Progress.{held_shown}
 use Rattle.sf_play.specs.law_played.Telling.{arrival_recorded}
-use Rattle.sf_play_write.specs.Closings.{history_of, stuck_at}
+use Rattle.sf_play.specs.sf_play_report.Closings.{history_of}
+use Rattle.sf_play_write.specs.Closings.{stuck_at}
 use Rattle.sf_play_write.specs.Writing.{Wrote}
 use Rattle.sf_play_write.proofs.ClosingLemmas.{arrived_of, rest_of}
 use Rattle.sf_play_write.proofs.WroteLemmas.{wrote_cut, wrote_then}

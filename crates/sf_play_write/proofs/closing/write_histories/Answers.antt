@@ -1,5 +1,5 @@
 use Rattle.sf_play.specs.sf_record.declared.record.Record.TheVariants as rec
-use Rattle.sf_play_write.specs.Closings.{history_of}
+use Rattle.sf_play.specs.sf_play_report.Closings.{history_of}
 use Rattle.sf_play_write.proofs.WroteLemmas.{wrote_each, wrote_each_cut, wrote_none}
 use Rattle.sf_play_write.proofs.closing.write_histories.Goals as goal
 

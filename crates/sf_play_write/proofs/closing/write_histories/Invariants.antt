@@ -1,6 +1,6 @@
 use Rattle.std.proofs.Common.{Ok, map, take}
 use Rattle.sf_play.specs.sf_record.declared.record.Record.TheVariants as rec
-use Rattle.sf_play_write.specs.Closings.{history_of}
+use Rattle.sf_play.specs.sf_play_report.Closings.{history_of}
 use Rattle.sf_play_write.specs.Writing.{Wrote}
 use Rattle.sf_play_write.proofs.closing.write_histories.Given as goal
 
