@@ -75,7 +75,7 @@ order_made before after old new order step stamp adds = record {
 }
 
 -- what is new among these has a stamp above this one
-abbrev Later : ℕ → List (ℕ × ℕ) → List (ℕ × ℕ) → Type 0
+abbrev pub Later : ℕ → List (ℕ × ℕ) → List (ℕ × ℕ) → Type 0
 Later stamp old new = (m : ℕ × ℕ) → Contains new m → Contains old m ⊎ (stamp < m.1)
 
 pub later_made : (before after : Clock) (old new : List (ℕ × ℕ)) → before.stamp < after.stamp → AddsOne (after.step, after.stamp) old new → Later before.stamp old new

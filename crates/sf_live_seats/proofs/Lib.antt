@@ -9,6 +9,7 @@ pub mod SeatsTakenIn
 pub mod OpenedLocks
 pub mod CallOrder
 pub mod QueuePass
+pub mod QueueCall
 pub mod SentThroughIntake
 pub mod ReunitedPass
 pub mod PassSend

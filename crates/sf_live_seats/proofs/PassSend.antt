@@ -2,11 +2,12 @@
 use Rattle.std.proofs.Common.{◌≡◌, ℕ, ◌+◌, ◌≤◌, List, [], ◌∷◌, ◌++◌, length, arith, ap, ◌∙◌, sym, refl, subst, Some}
 use Rattle.std.specs.Prelude.{Err, IfErr, IfOk, None, Ok, Result, is_none, map}
 use Rattle.atomic_table.specs.Seated.{TableId}
+use Rattle.std.proofs.Math.Nat.{le-max_left}
 use Rattle.std.proofs.lemmas.Bool.{false≢true}
 use Rattle.sf_calls.specs.Calling.{Made as Does}
 use Rattle.sf_calls.specs.Histories.{Begins, IsLegal, calls_by, entry}
 use Rattle.sf_calls.specs.Passes.{HasMark}
-use Rattle.sf_calls_stamped.specs.Stamps.{AnswersStamped, unstamped}
+use Rattle.sf_calls_stamped.specs.Stamps.{AnswersStamped, newest_stamp, unstamped}
 use Rattle.sf_actor.specs.sf_surface.Tokens.{ReadLeaseOf}
 use Rattle.sf_intake.specs.sf_token.Arrivals.{AnswersCall, sent}
 use Rattle.sf_intake.specs.sf_token.declared.arrivals.ArriveCall.TheVariants as arrive
@@ -20,7 +21,7 @@ use Rattle.sf_live_seats.specs.declared.clock.Clock.{Clock}
 use Rattle.sf_live_seats.specs.declared.locks.Locks.{Locks}
 use Rattle.sf_live_seats.specs.declared.seats.Seats.{Seats}
 use Rattle.sf_live_seats.specs.Arriving.{ArrivalEntry, ArrivalsPass, Arrived, Arriving}
-use Rattle.sf_live_seats.specs.Calls.{SentOne, Ticks}
+use Rattle.sf_live_seats.specs.Calls.{IsMade, SentOne, Ticks}
 use Rattle.sf_live_seats.specs.Moves.{ChangesArrivals}
 use Rattle.sf_live_seats.specs.Seats.{AreSeats, IsAtIntake, arrivals_known, calls_made, home_of, pass_at, post_moment, posts_of, sent_in, takes_in, view_of}
 use Rattle.sf_live_seats.proofs.IntakeHands.{none_there}
@@ -45,6 +46,20 @@ sent_one v w brought given step txn answer number marked is sends =
           (goes_unstamped v.by v.seen before
           (before_newest v.by v.seen w.seen before (entry v.by (brought, arrive.Send step txn) (given, reply.Number number)) refl made.newest.1 made.begins made.own));
     }
+
+-- it has a stamp above that of its caller's last call, and takes nothing
+pub made_sent : (v w : ArrivalsPass) (before : Clock) (given step : ℕ) (txn : Contents ReadLeaseOf) (answer : Arrived) → v.mark ≡ Some tt → before.step ≤ step → Sends v w (before.stamp, arrive.Send step txn) (given, answer)
+    → IsMade before (record { step = step; stamp = given }) (sent_in (calls_by v.by v.seen)) (sent_in (calls_by v.by w.seen))
+made_sent v w before given step txn answer marked later sends =
+    let made = (sends tt marked).0 in
+    let legal = subst (λ (log : List ArrivalEntry). IsLegal (AnswersStamped AnswersCall) log) made.newest.1 made.legal in
+    let above = legal.0.0 in
+    let up = le-max_left before.stamp (newest_stamp made.newest.0) in
+    record { step = later; stamp = omega (arith, above, up); moments = ap sent_in made.own }
+
+pub none_taken : (v w : ArrivalsPass) (brought given step : ℕ) (txn : Contents ReadLeaseOf) (answer : Arrived) → v.mark ≡ Some tt → Sends v w (brought, arrive.Send step txn) (given, answer)
+    → takes_in (calls_by v.by w.seen) ≡ takes_in (calls_by v.by v.seen)
+none_taken v w brought given step txn answer marked sends = ap takes_in (sends tt marked).0.own
 
 -- a desk of a caller's seats, under locks without an intake, sent what its pass sent
 pub made_send : {B X : Type 0} (seats : Seats B) (new shown : ArrivalsPass) (last : Clock) (locks : Locks B) (step : ℕ) (txn : Contents ReadLeaseOf) (result : Result ℕ X) → shown ≡ new → seats.arrivals.by ≡ seats.by → locks.intake ≡ None → seats.intake ≡ at.Nothing

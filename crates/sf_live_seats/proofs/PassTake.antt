@@ -62,6 +62,10 @@ rose_took v w brought given answer marked sends =
     let up = le-max_left brought (newest_stamp made.newest.0) in
     omega (arith, next, up)
 
+-- it sends nothing
+pub none_sent : (v w : ArrivalsPass) (brought given : ℕ) (answer : Arrived) → v.mark ≡ Some tt → Sends v w (brought, arrive.Take) (given, answer) → sent_in (calls_by v.by w.seen) ≡ sent_in (calls_by v.by v.seen)
+none_sent v w brought given answer marked sends = ap sent_in (sends tt marked).0.own
+
 pub took_goes : (v w : ArrivalsPass) (list : List (Arrival ReadLeaseOf)) → TookOne v w list → ArriveWithout v.by (sent (unstamped v.seen)) (sent (unstamped w.seen))
 took_goes v w list took =
     let all : sent (unstamped w.seen) ≡ sent took.earlier = ap (λ (log : ArrivalCalls). sent log) took.newest ∙ append-nil (sent took.earlier) in

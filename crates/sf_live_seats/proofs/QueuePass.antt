@@ -1,6 +1,6 @@
 -- A call through one of a caller's passes, on the queue of a number.
 use Rattle.std.proofs.Common.{◌≡◌, ◌≢◌, ℕ, zero, suc, ◌+◌, ◌<◌, ◌≤◌, ◌==◌, Bool, true, false, List, [], ◌∷◌, inl, inr, length, get_or, set, Option, Some, None, ◌||◌, arith, ap, ap₂, ◌∙◌, sym, refl, subst}
-use Rattle.std.specs.Prelude.{map, nat_lt, IfOk, Result, Ok, Err}
+use Rattle.std.specs.Prelude.{map, nat_lt}
 use Rattle.std.specs.List.{AllZip, list_any, position, position_or_len}
 use Rattle.std.proofs.lemmas.List.{set-get_or}
 use Rattle.std.proofs.lemmas.List.Sums.{sum_by-set}
@@ -9,9 +9,6 @@ use Rattle.std.proofs.lemmas.Bool.Decides.{nat_tests}
 use Rattle.std.proofs.lemmas.Option.{cond_some}
 use borrow.Author.Tests.{ltb-true}
 use Rattle.sf_base.specs.declared.ids.QueueId.{QueueId}
-use Rattle.sf_calls.specs.Calling.{IfFaultNoMemory, IfFaultNotYet}
-use Rattle.sf_calls.specs.declared.fault.CallFault.{CallFault}
-use Rattle.sf_calls.specs.declared.fault.CallFault.TheVariants as fault
 use Rattle.sf_calls.specs.Histories.{GoesOnWithout, IsLegal, waits as pending}
 use Rattle.sf_calls_stamped.specs.Stamps.{unstamped}
 use Rattle.sf_actor.specs.sf_surface.declared.call.QCall.{QCall}
@@ -24,9 +21,9 @@ use Rattle.sf_intake.specs.sf_token.Pending.{Arrival}
 use Rattle.sf_turns.specs.Views.{SeatView}
 use Rattle.sf_actor.specs.Desks.{ChangesQueue, DeskHome, DeskView, IsAsBefore, MadeCall, WaitsForCall, has_queue, mark_among}
 use Rattle.sf_live_seats.specs.declared.locks.QueueLock.{QueueLock}
-use Rattle.sf_live_seats.specs.Calls.{MadeOne, WaitsOne}
 use Rattle.sf_live_seats.specs.Moves.{MovesPass}
 use Rattle.sf_live_seats.specs.Seats.{IsPassOf, QueuePass, calls_known, is_at, is_lock, lock_mark, mark_in, turns_had}
+use Rattle.sf_live_seats.proofs.PassCall.{MadeOne, WaitsOne}
 
 -- what the first place is where a test passes
 pub place_is : {X : Type 0} (test : X → Bool) (xs : List X) (place : ℕ) → position test xs ≡ Some place → (position_or_len test xs ≡ place) × (place < length xs)
@@ -161,9 +158,6 @@ module _ {B : Type 0} where
   pub of_own : (by : ℕ) (lock : QueueLock B) (one next : QueuePass B) → IsPassOf by lock one → IsPassOf one.by lock next → IsPassOf by lock next
   of_own by lock one next was own = subst (λ (b : ℕ). IsPassOf b lock next) was.number own
 
-  pub to_own : (by : ℕ) (lock : QueueLock B) (one : QueuePass B) → IsPassOf by lock one → IsPassOf one.by lock one
-  to_own by lock one was = subst (λ (b : ℕ). IsPassOf b lock one) (sym was.number) was
-
   -- what is known after a call through the pass at a place
   pub record IsAfter (by : ℕ) (locks : List (QueueLock B)) (passes : List (QueuePass B)) (queue place : ℕ) (lock : QueueLock B) (one next : QueuePass B) : Type 0 where
     pub own : AllZip (IsPassOf by) locks passes
@@ -248,18 +242,3 @@ module _ {B : Type 0} where
       same_after same =
           let all : set passes place next ≡ passes = ap (λ (p : QueuePass B). set passes place p) (same ∙ h.there) ∙ set-get_or passes place one in
           ap view_with all
-
-      -- the same of whatever a call answers
-      pub if_made : (asked : ℕ × QCall B) (result : Result (QReply B) (CallFault (QCall B))) → IfOk result (MadeOne (lock_mark lock) one next asked) → IfOk result (MadeCall home (view_with passes) (view_with (set passes place next)) by queue asked)
-      if_made asked (Ok reply) made = made_after asked reply made
-      if_made asked (Err reason) made = tt
-
-      pub if_waits : (asked : ℕ × QCall B) (result : Result (QReply B) (CallFault (QCall B))) → IfFaultNotYet result (λ back. (back ≡ asked.1) × WaitsOne (lock_mark lock) one next asked) → IfFaultNotYet result (λ back. (back ≡ asked.1) × WaitsForCall home (view_with passes) (view_with (set passes place next)) by queue asked)
-      if_waits asked (Ok reply) waited = tt
-      if_waits asked (Err (fault.NotYet back)) waited = (waited.0, waits_after asked waited.1)
-      if_waits asked (Err (fault.NoMemory back)) waited = tt
-
-      pub if_no_memory : (call : QCall B) (result : Result (QReply B) (CallFault (QCall B))) → IfFaultNoMemory result (λ back. (back ≡ call) × (next ≡ one)) → IfFaultNoMemory result (λ back. (back ≡ call) × IsAsBefore (view_with passes) (view_with (set passes place next)))
-      if_no_memory call (Ok reply) same = tt
-      if_no_memory call (Err (fault.NotYet back)) same = tt
-      if_no_memory call (Err (fault.NoMemory back)) same = (same.0, same_after same.1)

@@ -1,11 +1,7 @@
 -- What a call through one pass shows.
 use Rattle.std.specs.Prelude.{◌≡◌, ℕ, ◌+◌, ◌<◌, ◌≤◌, List, [], ◌∷◌, ◌++◌, ◌⊎◌, length}
-use Rattle.sf_calls.specs.Histories.{GoesOnWithout, IsLegal, entry, waits}
+use Rattle.sf_calls.specs.Histories.{GoesOnWithout, IsLegal, entry}
 use Rattle.sf_calls_stamped.specs.Stamps.{unstamped}
-use Rattle.sf_actor.specs.sf_surface.declared.call.QCall.{QCall}
-use Rattle.sf_actor.specs.sf_surface.declared.call.QReply.{QReply}
-use Rattle.sf_actor.specs.sf_surface.declared.mark.QueueMark.{QueueMark}
-use Rattle.sf_actor.specs.sf_surface.Histories.{Answers, Made}
 use Rattle.sf_actor.specs.sf_surface.Tokens.{ReadLeaseOf}
 use Rattle.sf_intake.specs.sf_token.Arrivals.{AnswersCall, sent, waiting}
 use Rattle.sf_intake.specs.sf_token.declared.arrivals.ArriveCall.TheVariants as arrive
@@ -15,22 +11,6 @@ use Rattle.sf_intake.specs.sf_txn.Transactions.{Contents}
 use Rattle.sf_actor.specs.Known.{ArriveWithout}
 use Rattle.sf_live_seats.specs.declared.clock.Clock.{Clock}
 use Rattle.sf_live_seats.specs.Arriving.{ArrivalCalls, ArrivalsPass}
-use Rattle.sf_live_seats.specs.Seats.{QueuePass}
-
-module _ {B : Type 0} where
-  -- a call was made: it is the newest that is known, and the calls before it go on without one of the caller
-  pub record MadeOne (mark : QueueMark) (old new : QueuePass B) (asked : ℕ × QCall B) (reply : QReply B) : Type 0 where
-    pub legal : IsLegal (Answers mark) (unstamped new.seen)
-    pub earlier : List (Made B)
-    pub newest : unstamped new.seen ≡ entry old.by asked reply ∷ earlier
-    pub goes_on : GoesOnWithout old.by (unstamped old.seen) earlier
-
-  -- a call was not made: it is not time for it after the calls that are known, which go on without one of the caller
-  pub record WaitsOne (mark : QueueMark) (old new : QueuePass B) (asked : ℕ × QCall B) : Type 0 where
-    pub legal : IsLegal (Answers mark) (unstamped new.seen)
-    pub goes_on : GoesOnWithout old.by (unstamped old.seen) (unstamped new.seen)
-    pub not_yet : Answers mark (unstamped new.seen) old.by asked waits
-    pub looked : old.turns < new.turns
 
 -- a transaction was sent: it is the last that is known to have arrived, and those before it go on without one of the caller
 pub record SentOne (old new : ArrivalsPass) (step : ℕ) (txn : Contents ReadLeaseOf) (number : ℕ) : Type 0 where

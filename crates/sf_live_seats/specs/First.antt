@@ -64,7 +64,8 @@ module _ {B : Type 0} where
 
   -- they are so still after any calls through them
   abbrev pub StaysFirst : TableId → Locks B → FirstSeats B → FirstSeats B → Type 0
-  StaysFirst buffers locks old new = IsFirst buffers locks old → AreSeats buffers locks new.seats → Stays old.seats new.seats → new.took ≡ old.took → IsFirst buffers locks new
+  StaysFirst buffers locks old new =
+      IsFirst buffers locks old → AreSeats buffers locks new.seats → Stays old.seats new.seats → new.took ≡ old.took → IsFirst buffers locks new
 
   -- all that were given were taken in
   pub record HasAll (first : FirstSeats B) : Type 0 where

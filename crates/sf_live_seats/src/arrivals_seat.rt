@@ -1,20 +1,13 @@
 //! A caller's pass at the lock of the arrivals, in a type of its own, so that its drop is proved
 //! here alone.
-ghost use Rattle.std.specs.Prelude.{◌≡◌, Some, IfOk};
-ghost use Rattle.sf_calls.specs.Calling.{IfFaultNoMemory, IfFaultNotYet};
-ghost use Rattle.sf_live_seats.specs.Arriving.{MakesArrival, WaitsToArrive};
-
 use crate::arrivals::StampedArrivals;
-use sf_actor::ReadLease;
-use sf_calls::{CallFault, CallLock, Pass};
-use sf_intake::{ArriveCall, ArriveReply};
+use sf_calls::{CallLock, Pass};
 use sf_turns::TableName;
 use std::marker::Model;
-use std::sync::Wait;
 
 /// A caller's pass at the lock of the arrivals. Contracts see the pass.
 pub struct ArrivalsSeat<B: TableName> {
-    pass: Pass<StampedArrivals<B>>,
+    pub(crate) pass: Pass<StampedArrivals<B>>,
 }
 
 impl<B: TableName> Model for ArrivalsSeat<B> {
@@ -66,23 +59,6 @@ impl<B: TableName> ArrivalsSeat<B> {
         ensures own_calls { calls_by self.old.by self.new.seen ≡ calls_by self.old.by self.old.seen }
     {
         self.pass.meet(lock, seat.into_pass());
-    }
-
-    /// Makes a call through the pass, with its caller's stamp.
-    pub(crate) fn call<R: Wait>(
-        &mut self,
-        lock: &CallLock<StampedArrivals<B>>,
-        rt: &R,
-        call: (u64, ArriveCall<ReadLease<B>>),
-    ) -> Result<(u64, ArriveReply<ReadLease<B>>), CallFault<(u64, ArriveCall<ReadLease<B>>)>>
-        requires own { self.old.table ≡ lock.now }
-        requires marked { self.old.mark ≡ Some tt }
-        ensures same { self.new ≡ record self.old { seen = self.new.seen; turns = self.new.turns } }
-        ensures done { IfOk result (MakesArrival self.old self.new call) }
-        ensures not_yet { IfFaultNotYet result (WaitsToArrive self.old self.new call) }
-        ensures no_memory { IfFaultNoMemory result (λ back. (back ≡ call) × (self.new ≡ self.old)) }
-    {
-        self.pass.call(lock, rt, call)
     }
 }
 

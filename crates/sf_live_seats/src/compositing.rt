@@ -32,22 +32,22 @@ use std::sync::Wait;
 fn take_one<R: Wait, B: TableName>(
     rt: &R,
     lock: &CallLock<StampedArrivals<B>>,
-    pass: &mut ArrivalsSeat<B>,
+    seat: &mut ArrivalsSeat<B>,
     last: &mut Clock,
 ) -> Result<Vec<Arrived<ReadLease<B>>>, NoMemory>
-    requires own { pass.old.table ≡ lock.now }
-    requires marked { pass.old.mark ≡ Some tt }
-    ensures same { pass.new ≡ record pass.old { seen = pass.new.seen; turns = pass.new.turns } }
-    ensures turns { pass.old.turns ≤ pass.new.turns }
-    ensures begins { Begins pass.old.seen pass.new.seen }
+    requires own { seat.old.table ≡ lock.now }
+    requires marked { seat.old.mark ≡ Some tt }
+    ensures same { seat.new ≡ record seat.old { seen = seat.new.seen; turns = seat.new.turns } }
+    ensures turns { seat.old.turns ≤ seat.new.turns }
+    ensures begins { Begins seat.old.seen seat.new.seen }
     ensures step { last.new.step ≡ last.old.step }
     ensures stamp { last.old.stamp ≤ last.new.stamp }
-    ensures sends { sent_in (calls_by pass.old.by pass.new.seen) ≡ sent_in (calls_by pass.old.by pass.old.seen) }
-    ensures took { IfOk result (λ list. TookOne pass.old pass.new list.items) }
-    ensures newest { IfOk result (λ list. (newest_stamp pass.new.seen ≡ last.new.stamp) × (last.old.stamp < last.new.stamp)) }
-    ensures stays { IfErr result (λ _. pass.new ≡ pass.old) }
+    ensures sends { sent_in (calls_by seat.old.by seat.new.seen) ≡ sent_in (calls_by seat.old.by seat.old.seen) }
+    ensures took { IfOk result (λ list. TookOne seat.old seat.new list.items) }
+    ensures newest { IfOk result (λ list. (newest_stamp seat.new.seen ≡ last.new.stamp) × (last.old.stamp < last.new.stamp)) }
+    ensures stays { IfErr result (λ _. seat.new ≡ seat.old) }
 {
-    match pass.call(lock, rt, (last.stamp, ArriveCall::Take)) {
+    match seat.pass.call(lock, rt, (last.stamp, ArriveCall::Take)) {
         Ok((stamp, ArriveReply::Batch(batch))) => {
             last.stamp = stamp;
             let Batch { list } = batch;

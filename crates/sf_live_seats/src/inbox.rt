@@ -11,10 +11,10 @@ ghost use Rattle.sf_live_seats.specs.Seats.{AreWhole, IsHeard, MaySend, SendsTo}
 use crate::arrivals::StampedArrivals;
 use crate::arrivals_seat::ArrivalsSeat;
 use crate::at_intake::AtIntake;
-use crate::calls::send_one;
 use crate::clock::Clock;
 use crate::locks::Locks;
 use crate::seats::Seats;
+use crate::sending::send_one;
 use crate::shown::Shown;
 use sf_actor::ReadLease;
 use sf_base::{ActorId, NoMemory};

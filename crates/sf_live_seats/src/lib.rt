@@ -8,16 +8,17 @@
 mod arrivals;
 mod arrivals_seat;
 mod at_intake;
-mod calls;
 mod clock;
 mod compositing;
 mod first;
 mod inbox;
 mod laws;
 mod locks;
+mod noted;
 mod outbox;
 mod queue_seat;
 mod seats;
+mod sending;
 mod shared;
 mod shown;
 
@@ -29,6 +30,7 @@ pub use first::FirstSeats;
 pub use inbox::{Courier, Inbox};
 pub use laws::first_seats_stay_first;
 pub use locks::{Locks, QueueLock};
+pub use noted::Noted;
 pub use outbox::Outbox;
 pub use queue_seat::QueueSeat;
 pub use seats::Seats;

@@ -6,7 +6,8 @@ ghost use Rattle.sf_calls.specs.Passes.{first_pass};
 ghost use Rattle.sf_actor.specs.Desks.{has_queue};
 ghost use Rattle.sf_actor.specs.Plain.{view_of as plain_view};
 ghost use Rattle.sf_live_seats.specs.declared.seats.Seats.{Seats};
-ghost use Rattle.sf_live_seats.specs.Closing.{AllGoOn, AreArrivalsClosed, AreClosed, AreOpened, Closes, HasNoCalls, HasNoEntry, IsClosed, IsLast, IsLastAtArrivals, IsOpened, IsOrdered, Opens, OpensIntake};
+ghost use Rattle.sf_live_seats.specs.Closing.{AreOpened, HasNoCalls, IsOpened, Opens, OpensIntake};
+ghost use Rattle.sf_live_seats.specs.Closing.{AllGoOn, AreArrivalsClosed, AreClosed, Closes, HasNoEntry, IsClosed, IsLast, IsLastAtArrivals, IsOrdered};
 ghost use Rattle.sf_live_seats.specs.First.{HasAll, IsFirst, gave_of};
 ghost use Rattle.sf_live_seats.specs.Seats.{AreSeats, home_of, is_lock};
 

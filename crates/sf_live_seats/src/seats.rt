@@ -2,10 +2,10 @@
 //! timelines and turns, and how it sends transactions.
 use crate::arrivals_seat::ArrivalsSeat;
 use crate::at_intake::AtIntake;
-use crate::calls::{call_one, send_one};
 use crate::clock::Clock;
 use crate::locks::{Locks, place_in};
 use crate::queue_seat::QueueSeat;
+use crate::sending::send_one;
 use crate::shown::Shown;
 use sf_actor::{QCall, QReply, ReadLease};
 use sf_base::{NoMemory, QueueId};
@@ -78,7 +78,9 @@ impl<B: TableName> Seats<B> {
         }
     }
 
-    /// Makes a call on a queue, for a step of the caller, and waits for its turn under the lock.
+    /// Makes a call on a queue, for a step of the caller, and waits for its turn under the lock. It is
+    /// stamped behind the caller's last call, so that a caller's calls stay in order: a step before that
+    /// of the last call is refused as out of memory.
     pub fn call<R: Wait>(
         &mut self,
         locks: &Locks<B>,
@@ -99,17 +101,25 @@ impl<B: TableName> Seats<B> {
             × WaitsForCall (home_of locks.now self.old) (view_of self.old) (view_of self.new) self.old.by queue.0 (step, call)) }
         ensures no_memory { IfFaultNoMemory result (λ back. (back ≡ call) × IsAsBefore (view_of self.old) (view_of self.new)) }
     {
+        if step < self.last.step {
+            return Err(CallFault::NoMemory(call));
+        }
         let Some(place) = place_in(&locks.queues, queue) else {
             unreachable!()
         };
-        call_one(
-            rt,
-            &locks.queues[place],
-            &mut self.queues[place],
-            &mut self.last,
-            step,
-            call,
-        )
+        let lock = &locks.queues[place];
+        let seat = &mut self.queues[place];
+        match seat
+            .pass
+            .call(&lock.lock, rt, (self.last.stamp, (step, call)))
+        {
+            Ok((stamp, reply)) => {
+                self.last = Clock { step, stamp };
+                Ok(reply)
+            }
+            Err(CallFault::NotYet((_, (_, call)))) => Err(CallFault::NotYet(call)),
+            Err(CallFault::NoMemory((_, (_, call)))) => Err(CallFault::NoMemory(call)),
+        }
     }
 
     /// Sends a transaction, for a step of the caller: through its sender at the intake, where there is one,

@@ -1,6 +1,7 @@
 //! The desk of an actor in a thread: each call of its steps goes over its own seats to a lock that
-//! all share.
+//! all share. The desk notes what a step does, so that the thread knows whom to wake.
 use crate::locks::Locks;
+use crate::noted::Noted;
 use crate::seats::Seats;
 use sf_actor::{Desk, DrawFault, Ending, Owing, QCall, QReply, ReadLease, TokensOf, WriteLease};
 use sf_base::{ActorId, NoMemory, QueueId, Seen, TimelineId};
@@ -19,6 +20,7 @@ pub struct SharedDesk<'a, R, B: TableName> {
     rt: &'a R,
     locks: &'a Locks<B>,
     seats: Seats<B>,
+    noted: Noted,
 }
 
 impl<'a, R, B: TableName> Model for SharedDesk<'a, R, B> {
@@ -38,26 +40,32 @@ impl<'a, R, B: TableName> SharedDesk<'a, R, B> {
     ghost use Rattle.sf_live_seats.specs.Seats.{AreSeats, MaySend};
     ghost use Rattle.sf_live_seats.specs.Shared.{IsHome, home_of};
 
-    /// A desk of these seats.
+    /// A desk of these seats, over which nothing was done yet.
     pub fn new(rt: &'a R, locks: &'a Locks<B>, seats: Seats<B>) -> SharedDesk<'a, R, B>
         requires { MaySend B.table locks.now seats }
         ensures is { result ≡ record { locks = locks.entry.now; seats = seats } }
         ensures home { IsHome locks.entry.now (home_of result) }
     {
-        SharedDesk { rt, locks, seats }
+        SharedDesk {
+            rt,
+            locks,
+            seats,
+            noted: Noted::nothing(),
+        }
     }
 
-    /// The seats, which are ones of each locks that have the desk's home.
-    pub fn into_seats(self) -> Seats<B>
-        ensures seats { result ≡ self.entry.seats }
-        ensures own { (locks : Locks B) → IsHome locks (home_of self.entry) → AreSeats B.table locks result }
+    /// The seats, which are ones of each locks that have the desk's home, and what was done over the desk.
+    pub fn into_parts(self) -> (Seats<B>, Noted)
+        ensures seats { result.0 ≡ self.entry.seats }
+        ensures own { (locks : Locks B) → IsHome locks (home_of self.entry) → AreSeats B.table locks result.0 }
     {
         let SharedDesk {
             rt: _,
             locks: _,
             seats,
+            noted,
         } = self;
-        seats
+        (seats, noted)
     }
 }
 
@@ -78,6 +86,7 @@ impl<'a, R: Wait, B: TableName> Desk<TokensOf<B>> for SharedDesk<'a, R, B> {
         call: QCall<B>,
     ) -> Result<QReply<B>, CallFault<QCall<B>>> {
         let _ = by;
+        self.noted.note_call(queue);
         self.seats.call(self.locks, self.rt, queue, step, call)
     }
 
@@ -88,10 +97,12 @@ impl<'a, R: Wait, B: TableName> Desk<TokensOf<B>> for SharedDesk<'a, R, B> {
         txn: Transaction<ReadLease<B>>,
     ) -> Result<u32, (NoMemory, Transaction<ReadLease<B>>)> {
         let _ = by;
+        self.noted.note_send();
         self.seats.send(self.locks, self.rt, step, txn)
     }
 
     fn signal(&mut self, t: TimelineId, v: u64) {
+        self.noted.note_signal();
         self.seats.times.signal(&self.locks.times, t, v);
     }
 
@@ -106,6 +117,7 @@ impl<'a, R: Wait, B: TableName> Desk<TokensOf<B>> for SharedDesk<'a, R, B> {
         picture: &Picture,
         seen: &Seen,
     ) -> Result<WriteLease<B>, DrawFault<WriteLease<B>>> {
+        self.noted.note_drawing();
         lease.draw(alloc, &mut self.seats.turns, picture, seen)
     }
 
@@ -116,10 +128,13 @@ impl<'a, R: Wait, B: TableName> Desk<TokensOf<B>> for SharedDesk<'a, R, B> {
         picture: &Picture,
         seen: &Seen,
     ) -> Result<(), DrawFault<Owing<B>>> {
+        self.noted.note_drawing();
+        self.noted.note_end();
         owing.draw(alloc, &mut self.seats.turns, picture, seen)
     }
 
     fn end(&mut self, ending: Ending<B>) {
+        self.noted.note_end();
         ending.end(&mut self.seats.turns);
     }
 }

@@ -10,7 +10,7 @@ use Rattle.sf_actor_steps.specs.declared.actor.Actor.{Actor}
 use Rattle.sf_live_seats.specs.declared.first.FirstSeats.{FirstSeats}
 use Rattle.sf_live_seats.specs.declared.locks.Locks.{Locks}
 use Rattle.sf_live_seats.specs.declared.seats.Seats.{Seats}
-use Rattle.sf_live_seats.specs.First.{Gives, KnowsNothing, KnowsSame}
+use Rattle.sf_live_seats.specs.First.{Gives, IsFirst, KnowsNothing, KnowsSame}
 use Rattle.sf_live_seats.specs.Seats.{AreSeats, marks_of, tables_of, tells_of, view_of}
 use Rattle.sf_live_threads.specs.declared.seated_actor.SeatedActor.{SeatedActor}
 
@@ -49,6 +49,10 @@ module _ {B : Type 0} where
   -- the first seats gave some to these callers, one after the other
   abbrev pub GivesEach : FirstSeats B → List ℕ → FirstSeats B → Type 0
   GivesEach start callers new = FoldsTo (λ (old : FirstSeats B) (by : ℕ) (new : FirstSeats B). Gives by old new) start callers new
+
+  -- it holds of the first seats after each of these callers was given some
+  abbrev pub HoldsOnceSeated : TableId → Locks B → FirstSeats B → List ℕ → (FirstSeats B → Type 0) → Type 0
+  HoldsOnceSeated buffers locks start callers P = (new : FirstSeats B) → IsFirst buffers locks new → GivesEach start callers new → P new
 
   -- An actor that has done nothing may play its script over locks of which nothing is known that is its own, and has a permit for
   -- each dequeue of it.

@@ -8,7 +8,6 @@ mod all_returned;
 mod gates;
 mod here;
 mod laws;
-mod noting;
 mod pacing;
 mod run;
 mod seated_actor;

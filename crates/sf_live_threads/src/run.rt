@@ -3,10 +3,9 @@
 ghost use Rattle.std.specs.Prelude.{◌≡◌, ◌+◌, ◌≤◌, [], ◌∷◌, ◌⊎◌, length, map, Err, IfErr, IfOk, IfSome, IsErr, IsOk, None};
 ghost use Rattle.std.specs.List.{AllByRecursion, AllZip};
 ghost use Rattle.std.specs.List.Sorted.{IsStrictlyIncreasing};
-ghost use Rattle.sf_live_seats.specs.declared.first.FirstSeats.{FirstSeats as FirstIn};
 ghost use Rattle.sf_live_seats.specs.First.{HasAll, IsFirst, KnowsNothing, gave_of};
 ghost use Rattle.sf_live_seats.specs.Seats.{MaySend};
-ghost use Rattle.sf_live_threads.specs.Seating.{GivesEach, IsNewcomer, number_of};
+ghost use Rattle.sf_live_threads.specs.Seating.{HoldsOnceSeated, IsNewcomer, number_of};
 ghost use Rattle.sf_live_threads.specs.SeatedActors.{MayTryNext};
 ghost use Rattle.sf_live_threads.specs.Backs.{AllCame};
 ghost use Rattle.sf_live_threads.specs.inner.Tasks.{GivesWhole, IsFitTask, Stays};
@@ -224,8 +223,7 @@ pub fn run_actors<
     requires few { length actors.items ≤ 64 }
     requires rising { IsStrictlyIncreasing (first.seats.by ∷ map number_of actors.items) }
     requires newcomers { AllByRecursion (IsNewcomer B.table locks.now pictures.now first.seats) actors.items }
-    requires kept { (after_seating : FirstIn B) → IsFirst B.table locks.now after_seating → GivesEach first (map number_of actors.items) after_seating
-        → V.keeps visitor visitor locks.now after_seating }
+    requires kept { HoldsOnceSeated B.table locks.now first (map number_of actors.items) (V.keeps visitor visitor locks.now) }
     ensures first { IfOk result.1 (λ all_returned. IsFirst B.table locks.now all_returned.first) }
     ensures all { IfOk result.1 (λ all_returned. HasAll all_returned.first) }
     ensures returns { IfOk result.1 (Returns (V.keeps visitor) B.table locks.now pictures.now first actors.items result.0) }

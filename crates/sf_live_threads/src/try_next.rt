@@ -3,13 +3,12 @@
 ghost use Rattle.std.specs.Prelude.{IfOk};
 ghost use Rattle.sf_live_threads.specs.SeatedActors.{MayTryNext, TriesNext};
 
-use crate::noting::{Noted, try_noting};
 use crate::pacing::Pacing;
 use crate::seated_actor::SeatedActor;
 use sf_actor_steps::Stepped;
 use sf_base::NoMemory;
 use sf_io::Gate;
-use sf_live_seats::{Locks, SharedDesk};
+use sf_live_seats::{Locks, Noted, SharedDesk};
 use sf_picture::Picture;
 use sf_turns::TableName;
 use std::sync::Wait;
@@ -31,9 +30,9 @@ pub(crate) fn try_next<R: Wait, G: Gate, B: TableName>(
         gates,
     } = seated_actor;
     let gates = gates.ready(pacing.rt, pacing.gate, &actor);
-    let desk = SharedDesk::new(pacing.rt, locks, seats);
-    let (desk, stepped, noted) = try_noting(&mut actor, desk, pictures);
-    let seats = desk.into_seats();
+    let mut desk = SharedDesk::new(pacing.rt, locks, seats);
+    let stepped = actor.try_step(&mut desk, pictures);
+    let (seats, noted) = desk.into_parts();
     let seated_actor = SeatedActor {
         actor,
         seats,

@@ -4,13 +4,12 @@ ghost use Rattle.std.specs.Prelude.{◌<◌};
 ghost use Rattle.sf_live_threads.specs.SeatedActors.{MayTryNext};
 ghost use Rattle.sf_live_threads.specs.Backs.{IfWhole};
 
-use crate::noting::Noted;
 use crate::pacing::Pacing;
 use crate::seated_actor::{Back, SeatedActor};
 use crate::try_next::try_next;
 use sf_actor_steps::Stepped;
 use sf_io::Gate;
-use sf_live_seats::Locks;
+use sf_live_seats::{Locks, Noted};
 use sf_live_watch::Watch;
 use sf_picture::Picture;
 use sf_turns::TableName;

@@ -1,150 +1,116 @@
-use Rattle.std.proofs.Common.{◌++◌, ◌∙◌, ap, sym, refl, arith}
-use Rattle.std.specs.Prelude.{map}
+use Rattle.std.proofs.Common.{ℕ, ◌∙◌, ap, arith, refl, sym}
 use Rattle.std.specs.List.{position}
-use Rattle.sf_calls.specs.Histories.{calls_by}
-use Rattle.sf_live_seats.specs.Seats.{arrivals_known, home_of, is_lock, post_moment, posts_of, sent_in}
-use Rattle.sf_live_seats.proofs.IntakeHands.{way_later}
-use Rattle.sf_live_seats.proofs.CallOrder.{later_called, order_called, stamp_rises}
-use Rattle.sf_live_seats.proofs.QueuePass.{IsAfter, if_made, if_no_memory, if_waits, low_place, moves, no_queue, of_own, own_after, to_own, was_at}
+use Rattle.std.specs.Vec.{with_item}
+use Rattle.sf_actor.specs.sf_surface.declared.call.QCall.{QCall}
+use Rattle.sf_live_seats.specs.Seats.{home_of, is_lock, lock_mark}
+use Rattle.sf_live_seats.proofs.PassCall.{made_one, made_passed, refused, same_passed, told, waits_one, waits_passed}
+use Rattle.sf_live_seats.proofs.QueueCall.{at_lock, called_changes, called_made, called_own, called_waits, changes_none, own_pass}
+use Rattle.sf_live_seats.proofs.QueuePass.{low_place, no_queue}
 use Rattle.sf_live_seats.proofs.seats.Seats.call.Goals as goal
+
+pub returns-then-step-self-clause-changes : goal.returns-then-step-self-clause-changes
+returns-then-step-self-clause-changes g c = changes_none c.args.self.now
 
 pub unreachable-requires : goal.unreachable-requires
 unreachable-requires g c =
     let seats = c.args.self.now in
-    no_queue seats.by c.args.queue.0 c.args.locks.now.queues.items seats.queues.items (home_of c.args.locks.now seats) c.requires.own.queues refl (ap (position (is_lock {B = g.row.B.Denot} c.args.queue.0)) (sym c.deref.ensures.value) ∙ sym c.place_in.ensures ∙ c.in_default.is) c.requires.there
+    no_queue seats.by c.args.queue.0 c.args.locks.now.queues.items seats.queues.items (home_of c.args.locks.now seats) c.requires.own.queues refl
+    (ap (position (is_lock {B = g.row.B.Denot} c.args.queue.0)) (sym c.deref.ensures.value) ∙ sym c.place_in.ensures ∙ c.in_default.is) c.requires.there
 
-pub index_mut-requires : goal.index_mut-requires
-index_mut-requires g c =
+pub index_mut-seat-requires : goal.index_mut-seat-requires
+index_mut-seat-requires g c =
     let seats = c.args.self.now in
     let low = low_place seats.by c.args.queue.0 c.in-Some.place c.args.locks.now.queues.items seats.queues.items c.requires.own.queues (ap (position (is_lock {B = g.row.B.Denot} c.args.queue.0)) (sym c.deref.ensures.value) ∙ sym c.place_in.ensures ∙ c.in-Some.is) in
     let long = seats.queues.ok.0 in
     omega (arith, low, long)
 
-pub call_one-requires-clause-own : goal.call_one-requires-clause-own
-call_one-requires-clause-own g c =
-    let seats = c.args.self.now in
-    let was = was_at seats.by c.args.queue.0 c.in-Some.place c.args.locks.now.queues.items seats.queues.items c.index.result.now c.index_mut.result.now c.requires.own.queues
-    (ap (position (is_lock {B = g.row.B.Denot} c.args.queue.0)) (sym c.deref.ensures.value) ∙ sym c.place_in.ensures ∙ c.in-Some.is) c.index.ensures c.index_mut.ensures.value in
-    to_own seats.by c.index.result.now c.index_mut.result.now was
+pub call-requires-clause-own : goal.call-requires-clause-own
+call-requires-clause-own g c =
+    let at = at_lock g.B.TableName.table c.args.locks.now c.args.self.now c.args.queue.0 c.in-Some.place c.index-lock.result.now c.index_mut-seat.result.now c.seat.inside.pass c.requires.own
+    (ap (position (is_lock {B = g.row.B.Denot} c.args.queue.0)) (sym c.deref.ensures.value) ∙ sym c.place_in.ensures ∙ c.in-Some.is) c.index-lock.ensures c.index_mut-seat.ensures.value c.seat.view_is in
+    let own = own_pass g.B.TableName.table c.args.locks.now c.args.self.now c.args.queue.0 c.in-Some.place c.index-lock.result.now c.seat.inside.pass at in
+    own.own
 
-pub returns-clause-own : goal.returns-clause-own
-returns-clause-own g c =
-    let seats = c.args.self.now in
-    let locks = c.args.locks.now.queues.items in
-    let lock = c.index.result.now in
-    let one = c.index_mut.result.now in
-    let next = c.call_one.new.pass in
-    let first = ap (position (is_lock {B = g.row.B.Denot} c.args.queue.0)) (sym c.deref.ensures.value) ∙ sym c.place_in.ensures ∙ c.in-Some.is in
-    let was = was_at seats.by c.args.queue.0 c.in-Some.place locks seats.queues.items lock one c.requires.own.queues first c.index.ensures c.index_mut.ensures.value in
-    let after : IsAfter seats.by locks seats.queues.items c.args.queue.0 c.in-Some.place lock one next = record {
-      own = c.requires.own.queues;
-      first = first;
-      lock_there = c.index.ensures;
-      there = c.index_mut.ensures.value;
-      still = of_own seats.by lock one next was c.call_one.ensures.own;
-      turns = c.call_one.ensures.turns;
-    } in
-    record {
-      queues = own_after seats.by locks seats.queues.items c.args.queue.0 c.in-Some.place lock one next after;
-      own_arrivals = c.requires.own.own_arrivals;
-      marked = c.requires.own.marked;
-      number = c.requires.own.number;
-      own_times = c.requires.own.own_times;
-      own_turns = c.requires.own.own_turns;
-      in_order =
-          order_called seats.last c.call_one.new.last seats.by seats.queues.items c.in-Some.place one next (sent_in (calls_by seats.by seats.arrivals.seen) ++ map post_moment (posts_of seats.intake)) c.requires.own.in_order
-          c.index_mut.ensures.value was.number
-          (low_place seats.by c.args.queue.0 c.in-Some.place locks seats.queues.items c.requires.own.queues first) c.call_one.ensures.ticks;
-      takes = c.requires.own.takes;
-      pass = c.requires.own.pass;
-      way =
-          way_later c.args.locks.now seats.by seats.arrivals.gave seats.last c.call_one.new.last seats.intake (stamp_rises seats.last c.call_one.new.last _ _ c.call_one.ensures.ticks)
-          c.requires.own.way;
-    }
+pub call-requires-clause-fits : goal.call-requires-clause-fits
+call-requires-clause-fits g c =
+    let at = at_lock g.B.TableName.table c.args.locks.now c.args.self.now c.args.queue.0 c.in-Some.place c.index-lock.result.now c.index_mut-seat.result.now c.seat.inside.pass c.requires.own
+    (ap (position (is_lock {B = g.row.B.Denot} c.args.queue.0)) (sym c.deref.ensures.value) ∙ sym c.place_in.ensures ∙ c.in-Some.is) c.index-lock.ensures c.index_mut-seat.ensures.value c.seat.view_is in
+    let own = own_pass g.B.TableName.table c.args.locks.now c.args.self.now c.args.queue.0 c.in-Some.place c.index-lock.result.now c.seat.inside.pass at in
+    (lock_mark c.index-lock.result.now, own.marked, c.requires.permit)
 
-pub returns-clause-changes : goal.returns-clause-changes
-returns-clause-changes g c =
-    let seats = c.args.self.now in
-    let locks = c.args.locks.now.queues.items in
-    let lock = c.index.result.now in
-    let one = c.index_mut.result.now in
-    let next = c.call_one.new.pass in
-    let first = ap (position (is_lock {B = g.row.B.Denot} c.args.queue.0)) (sym c.deref.ensures.value) ∙ sym c.place_in.ensures ∙ c.in-Some.is in
-    let was = was_at seats.by c.args.queue.0 c.in-Some.place locks seats.queues.items lock one c.requires.own.queues first c.index.ensures c.index_mut.ensures.value in
-    let after : IsAfter seats.by locks seats.queues.items c.args.queue.0 c.in-Some.place lock one next = record {
-      own = c.requires.own.queues;
-      first = first;
-      lock_there = c.index.ensures;
-      there = c.index_mut.ensures.value;
-      still = of_own seats.by lock one next was c.call_one.ensures.own;
-      turns = c.call_one.ensures.turns;
-    } in
-    record {
-      same = refl;
-      passes = moves seats.by locks seats.queues.items c.args.queue.0 c.in-Some.place lock one next after (record { same = c.call_one.ensures.same; begins = c.call_one.ensures.begins });
-      last = stamp_rises seats.last c.call_one.new.last _ _ c.call_one.ensures.ticks;
-      later =
-          later_called seats.last c.call_one.new.last seats.by seats.queues.items c.in-Some.place one next (sent_in (calls_by seats.by seats.arrivals.seen) ++ map post_moment (posts_of seats.intake))
-          c.index_mut.ensures.value was.number
-          (low_place seats.by c.args.queue.0 c.in-Some.place locks seats.queues.items c.requires.own.queues first) c.call_one.ensures.ticks;
-    }
+pub returns-in-Ok-clause-own : goal.returns-in-Ok-clause-own
+returns-in-Ok-clause-own g c =
+    let at = at_lock g.B.TableName.table c.args.locks.now c.args.self.now c.args.queue.0 c.in-Some.place c.index-lock.result.now c.index_mut-seat.result.now c.seat.inside.pass c.requires.own
+    (ap (position (is_lock {B = g.row.B.Denot} c.args.queue.0)) (sym c.deref.ensures.value) ∙ sym c.place_in.ensures ∙ c.in-Some.is) c.index-lock.ensures c.index_mut-seat.ensures.value c.seat.view_is in
+    let own = own_pass g.B.TableName.table c.args.locks.now c.args.self.now c.args.queue.0 c.in-Some.place c.index-lock.result.now c.seat.inside.pass at in
+    let made = c.in-Ok.ensures.done (lock_mark c.index-lock.result.now) own.marked in
+    let passed = made_passed c.index-lock.result.now c.seat.inside.pass c.call.new.self c.args.self.now.last c.args.step c.in-Ok.stamp c.args.call c.in-Ok.reply own c.call.ensures.same c.if-step-self.false made.0 in
+    called_own g.B.TableName.table c.args.locks.now c.args.self.now c.args.queue.0 c.in-Some.place c.index-lock.result.now c.seat.inside.pass at c.call.new.self (record { step = c.args.step; stamp = c.in-Ok.stamp }) passed (with_item c.args.self.now.queues c.in-Some.place c.call.new.self) refl
 
-pub returns-clause-made : goal.returns-clause-made
-returns-clause-made g c =
-    let seats = c.args.self.now in
-    let locks = c.args.locks.now.queues.items in
-    let lock = c.index.result.now in
-    let one = c.index_mut.result.now in
-    let next = c.call_one.new.pass in
-    let first = ap (position (is_lock {B = g.row.B.Denot} c.args.queue.0)) (sym c.deref.ensures.value) ∙ sym c.place_in.ensures ∙ c.in-Some.is in
-    let was = was_at seats.by c.args.queue.0 c.in-Some.place locks seats.queues.items lock one c.requires.own.queues first c.index.ensures c.index_mut.ensures.value in
-    let after : IsAfter seats.by locks seats.queues.items c.args.queue.0 c.in-Some.place lock one next = record {
-      own = c.requires.own.queues;
-      first = first;
-      lock_there = c.index.ensures;
-      there = c.index_mut.ensures.value;
-      still = of_own seats.by lock one next was c.call_one.ensures.own;
-      turns = c.call_one.ensures.turns;
-    } in
-    if_made seats.by locks seats.queues.items c.args.queue.0 c.in-Some.place lock one next after (home_of c.args.locks.now seats) refl refl
-    (arrivals_known seats.intake seats.arrivals.seen) seats.times.knows seats.turns seats.arrivals.turns (c.args.step, c.args.call) c.call_one.result c.call_one.ensures.made
+pub returns-in-Ok-clause-changes : goal.returns-in-Ok-clause-changes
+returns-in-Ok-clause-changes g c =
+    let at = at_lock g.B.TableName.table c.args.locks.now c.args.self.now c.args.queue.0 c.in-Some.place c.index-lock.result.now c.index_mut-seat.result.now c.seat.inside.pass c.requires.own
+    (ap (position (is_lock {B = g.row.B.Denot} c.args.queue.0)) (sym c.deref.ensures.value) ∙ sym c.place_in.ensures ∙ c.in-Some.is) c.index-lock.ensures c.index_mut-seat.ensures.value c.seat.view_is in
+    let own = own_pass g.B.TableName.table c.args.locks.now c.args.self.now c.args.queue.0 c.in-Some.place c.index-lock.result.now c.seat.inside.pass at in
+    let made = c.in-Ok.ensures.done (lock_mark c.index-lock.result.now) own.marked in
+    let passed = made_passed c.index-lock.result.now c.seat.inside.pass c.call.new.self c.args.self.now.last c.args.step c.in-Ok.stamp c.args.call c.in-Ok.reply own c.call.ensures.same c.if-step-self.false made.0 in
+    called_changes g.B.TableName.table c.args.locks.now c.args.self.now c.args.queue.0 c.in-Some.place c.index-lock.result.now c.seat.inside.pass at c.call.new.self (record { step = c.args.step; stamp = c.in-Ok.stamp }) passed (with_item c.args.self.now.queues c.in-Some.place c.call.new.self) refl
 
-pub returns-clause-not_yet : goal.returns-clause-not_yet
-returns-clause-not_yet g c =
-    let seats = c.args.self.now in
-    let locks = c.args.locks.now.queues.items in
-    let lock = c.index.result.now in
-    let one = c.index_mut.result.now in
-    let next = c.call_one.new.pass in
-    let first = ap (position (is_lock {B = g.row.B.Denot} c.args.queue.0)) (sym c.deref.ensures.value) ∙ sym c.place_in.ensures ∙ c.in-Some.is in
-    let was = was_at seats.by c.args.queue.0 c.in-Some.place locks seats.queues.items lock one c.requires.own.queues first c.index.ensures c.index_mut.ensures.value in
-    let after : IsAfter seats.by locks seats.queues.items c.args.queue.0 c.in-Some.place lock one next = record {
-      own = c.requires.own.queues;
-      first = first;
-      lock_there = c.index.ensures;
-      there = c.index_mut.ensures.value;
-      still = of_own seats.by lock one next was c.call_one.ensures.own;
-      turns = c.call_one.ensures.turns;
-    } in
-    if_waits seats.by locks seats.queues.items c.args.queue.0 c.in-Some.place lock one next after (home_of c.args.locks.now seats) refl refl
-    (arrivals_known seats.intake seats.arrivals.seen) seats.times.knows seats.turns seats.arrivals.turns (c.args.step, c.args.call) c.call_one.result c.call_one.ensures.not_yet
+pub returns-in-Ok-clause-made : goal.returns-in-Ok-clause-made
+returns-in-Ok-clause-made g c =
+    let at = at_lock g.B.TableName.table c.args.locks.now c.args.self.now c.args.queue.0 c.in-Some.place c.index-lock.result.now c.index_mut-seat.result.now c.seat.inside.pass c.requires.own
+    (ap (position (is_lock {B = g.row.B.Denot} c.args.queue.0)) (sym c.deref.ensures.value) ∙ sym c.place_in.ensures ∙ c.in-Some.is) c.index-lock.ensures c.index_mut-seat.ensures.value c.seat.view_is in
+    let own = own_pass g.B.TableName.table c.args.locks.now c.args.self.now c.args.queue.0 c.in-Some.place c.index-lock.result.now c.seat.inside.pass at in
+    let made = c.in-Ok.ensures.done (lock_mark c.index-lock.result.now) own.marked in
+    let passed = made_passed c.index-lock.result.now c.seat.inside.pass c.call.new.self c.args.self.now.last c.args.step c.in-Ok.stamp c.args.call c.in-Ok.reply own c.call.ensures.same c.if-step-self.false made.0 in
+    called_made g.B.TableName.table c.args.locks.now c.args.self.now c.args.queue.0 c.in-Some.place c.index-lock.result.now c.seat.inside.pass at c.call.new.self (record { step = c.args.step; stamp = c.in-Ok.stamp }) passed (with_item c.args.self.now.queues c.in-Some.place c.call.new.self) refl (c.args.step, c.args.call) c.in-Ok.reply
+    (made_one (lock_mark c.index-lock.result.now) c.seat.inside.pass c.call.new.self c.args.self.now.last.stamp c.in-Ok.stamp (c.args.step, c.args.call) c.in-Ok.reply made.0)
 
-pub returns-clause-no_memory : goal.returns-clause-no_memory
-returns-clause-no_memory g c =
-    let seats = c.args.self.now in
-    let locks = c.args.locks.now.queues.items in
-    let lock = c.index.result.now in
-    let one = c.index_mut.result.now in
-    let next = c.call_one.new.pass in
-    let first = ap (position (is_lock {B = g.row.B.Denot} c.args.queue.0)) (sym c.deref.ensures.value) ∙ sym c.place_in.ensures ∙ c.in-Some.is in
-    let was = was_at seats.by c.args.queue.0 c.in-Some.place locks seats.queues.items lock one c.requires.own.queues first c.index.ensures c.index_mut.ensures.value in
-    let after : IsAfter seats.by locks seats.queues.items c.args.queue.0 c.in-Some.place lock one next = record {
-      own = c.requires.own.queues;
-      first = first;
-      lock_there = c.index.ensures;
-      there = c.index_mut.ensures.value;
-      still = of_own seats.by lock one next was c.call_one.ensures.own;
-      turns = c.call_one.ensures.turns;
-    } in
-    if_no_memory seats.by locks seats.queues.items c.args.queue.0 c.in-Some.place lock one next after (home_of c.args.locks.now seats) refl refl
-    (arrivals_known seats.intake seats.arrivals.seen) seats.times.knows seats.turns seats.arrivals.turns c.args.call c.call_one.result c.call_one.ensures.no_memory
+pub returns-in-Ok-clause-spare : goal.returns-in-Ok-clause-spare
+returns-in-Ok-clause-spare g c =
+    let at = at_lock g.B.TableName.table c.args.locks.now c.args.self.now c.args.queue.0 c.in-Some.place c.index-lock.result.now c.index_mut-seat.result.now c.seat.inside.pass c.requires.own
+    (ap (position (is_lock {B = g.row.B.Denot} c.args.queue.0)) (sym c.deref.ensures.value) ∙ sym c.place_in.ensures ∙ c.in-Some.is) c.index-lock.ensures c.index_mut-seat.ensures.value c.seat.view_is in
+    let own = own_pass g.B.TableName.table c.args.locks.now c.args.self.now c.args.queue.0 c.in-Some.place c.index-lock.result.now c.seat.inside.pass at in
+    (c.in-Ok.ensures.done (lock_mark c.index-lock.result.now) own.marked).1
+
+pub returns-in-Err-NotYet-clause-own : goal.returns-in-Err-NotYet-clause-own
+returns-in-Err-NotYet-clause-own g c =
+    let at = at_lock g.B.TableName.table c.args.locks.now c.args.self.now c.args.queue.0 c.in-Some.place c.index-lock.result.now c.index_mut-seat.result.now c.seat.inside.pass c.requires.own
+    (ap (position (is_lock {B = g.row.B.Denot} c.args.queue.0)) (sym c.deref.ensures.value) ∙ sym c.place_in.ensures ∙ c.in-Some.is) c.index-lock.ensures c.index_mut-seat.ensures.value c.seat.view_is in
+    let own = own_pass g.B.TableName.table c.args.locks.now c.args.self.now c.args.queue.0 c.in-Some.place c.index-lock.result.now c.seat.inside.pass at in
+    let not_yet = told c.seat.inside.pass c.call.new.self (c.args.self.now.last.stamp, (c.args.step, c.args.call)) _ c.in-Err-NotYet.field-0 c.in-Err-NotYet.field-0-is c.in-Err-NotYet.ensures.not_yet in
+    let waited = not_yet.1 (lock_mark c.index-lock.result.now) own.marked in
+    let passed = waits_passed c.index-lock.result.now c.seat.inside.pass c.call.new.self c.args.self.now.last (c.args.step, c.args.call) own c.call.ensures.same waited in
+    called_own g.B.TableName.table c.args.locks.now c.args.self.now c.args.queue.0 c.in-Some.place c.index-lock.result.now c.seat.inside.pass at c.call.new.self c.args.self.now.last passed (with_item c.args.self.now.queues c.in-Some.place c.call.new.self) refl
+
+pub returns-in-Err-NotYet-clause-changes : goal.returns-in-Err-NotYet-clause-changes
+returns-in-Err-NotYet-clause-changes g c =
+    let at = at_lock g.B.TableName.table c.args.locks.now c.args.self.now c.args.queue.0 c.in-Some.place c.index-lock.result.now c.index_mut-seat.result.now c.seat.inside.pass c.requires.own
+    (ap (position (is_lock {B = g.row.B.Denot} c.args.queue.0)) (sym c.deref.ensures.value) ∙ sym c.place_in.ensures ∙ c.in-Some.is) c.index-lock.ensures c.index_mut-seat.ensures.value c.seat.view_is in
+    let own = own_pass g.B.TableName.table c.args.locks.now c.args.self.now c.args.queue.0 c.in-Some.place c.index-lock.result.now c.seat.inside.pass at in
+    let not_yet = told c.seat.inside.pass c.call.new.self (c.args.self.now.last.stamp, (c.args.step, c.args.call)) _ c.in-Err-NotYet.field-0 c.in-Err-NotYet.field-0-is c.in-Err-NotYet.ensures.not_yet in
+    let waited = not_yet.1 (lock_mark c.index-lock.result.now) own.marked in
+    let passed = waits_passed c.index-lock.result.now c.seat.inside.pass c.call.new.self c.args.self.now.last (c.args.step, c.args.call) own c.call.ensures.same waited in
+    called_changes g.B.TableName.table c.args.locks.now c.args.self.now c.args.queue.0 c.in-Some.place c.index-lock.result.now c.seat.inside.pass at c.call.new.self c.args.self.now.last passed (with_item c.args.self.now.queues c.in-Some.place c.call.new.self) refl
+
+pub returns-in-Err-NotYet-clause-not_yet : goal.returns-in-Err-NotYet-clause-not_yet
+returns-in-Err-NotYet-clause-not_yet g c =
+    let at = at_lock g.B.TableName.table c.args.locks.now c.args.self.now c.args.queue.0 c.in-Some.place c.index-lock.result.now c.index_mut-seat.result.now c.seat.inside.pass c.requires.own
+    (ap (position (is_lock {B = g.row.B.Denot} c.args.queue.0)) (sym c.deref.ensures.value) ∙ sym c.place_in.ensures ∙ c.in-Some.is) c.index-lock.ensures c.index_mut-seat.ensures.value c.seat.view_is in
+    let own = own_pass g.B.TableName.table c.args.locks.now c.args.self.now c.args.queue.0 c.in-Some.place c.index-lock.result.now c.seat.inside.pass at in
+    let not_yet = told c.seat.inside.pass c.call.new.self (c.args.self.now.last.stamp, (c.args.step, c.args.call)) _ c.in-Err-NotYet.field-0 c.in-Err-NotYet.field-0-is c.in-Err-NotYet.ensures.not_yet in
+    let waited = not_yet.1 (lock_mark c.index-lock.result.now) own.marked in
+    let passed = waits_passed c.index-lock.result.now c.seat.inside.pass c.call.new.self c.args.self.now.last (c.args.step, c.args.call) own c.call.ensures.same waited in (
+      ap (λ (back : ℕ × (ℕ × QCall g.row.B.Denot)). back.1.1) not_yet.0,
+      called_waits g.B.TableName.table c.args.locks.now c.args.self.now c.args.queue.0 c.in-Some.place c.index-lock.result.now c.seat.inside.pass at c.call.new.self c.args.self.now.last passed (with_item c.args.self.now.queues c.in-Some.place c.call.new.self) refl (c.args.step, c.args.call)
+          (waits_one (lock_mark c.index-lock.result.now) c.seat.inside.pass c.call.new.self c.args.self.now.last.stamp (c.args.step, c.args.call) waited),
+    )
+
+pub returns-in-Err-NoMemory-clause-changes : goal.returns-in-Err-NoMemory-clause-changes
+returns-in-Err-NoMemory-clause-changes g c =
+    let at = at_lock g.B.TableName.table c.args.locks.now c.args.self.now c.args.queue.0 c.in-Some.place c.index-lock.result.now c.index_mut-seat.result.now c.seat.inside.pass c.requires.own
+    (ap (position (is_lock {B = g.row.B.Denot} c.args.queue.0)) (sym c.deref.ensures.value) ∙ sym c.place_in.ensures ∙ c.in-Some.is) c.index-lock.ensures c.index_mut-seat.ensures.value c.seat.view_is in
+    let own = own_pass g.B.TableName.table c.args.locks.now c.args.self.now c.args.queue.0 c.in-Some.place c.index-lock.result.now c.seat.inside.pass at in
+    let same = refused c.seat.inside.pass c.call.new.self (c.args.self.now.last.stamp, (c.args.step, c.args.call)) _ c.in-Err-NoMemory.field-0 c.in-Err-NoMemory.field-0-is c.in-Err-NoMemory.ensures.no_memory in
+    let passed = same_passed c.index-lock.result.now c.seat.inside.pass c.call.new.self c.args.self.now.last own same in
+    called_changes g.B.TableName.table c.args.locks.now c.args.self.now c.args.queue.0 c.in-Some.place c.index-lock.result.now c.seat.inside.pass at c.call.new.self c.args.self.now.last passed (with_item c.args.self.now.queues c.in-Some.place c.call.new.self) refl

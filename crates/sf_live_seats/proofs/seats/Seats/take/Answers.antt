@@ -19,10 +19,10 @@ returns-clause-own g c =
     let first = ap (λ (s : Seats g.row.B.Denot). s.by) c.bring_in.ensures.brings.same ∙ c.requires.first in
     let is : c.in-Some.pass ≡ seats.arrivals = some_same (sym c.in-Some.is ∙ there_first g.B.TableName.table c.args.locks.now seats c.bring_in.ensures.own first) in
     let made = c.take_one-taken.ensures in
-    let takes : PassTakes c.in-Some.pass c.take_one-taken.new.pass seats.last c.take_one-taken.new.last =
+    let takes : PassTakes c.in-Some.pass c.take_one-taken.new.seat seats.last c.take_one-taken.new.last =
     record { same = made.same; turns = made.turns; begins = made.begins; step = made.step; stamp = made.stamp; sends = made.sends } in
-    let here = subst (λ (p : ArrivalsPass). PassTakes p c.take_one-taken.new.pass seats.last c.take_one-taken.new.last) is takes in
-    waiting_own g.B.TableName.table c.args.locks.now seats c.take_one-taken.new.pass c.of.result c.take_one-taken.new.last c.bring_in.ensures.own first here c.of.ensures
+    let here = subst (λ (p : ArrivalsPass). PassTakes p c.take_one-taken.new.seat seats.last c.take_one-taken.new.last) is takes in
+    waiting_own g.B.TableName.table c.args.locks.now seats c.take_one-taken.new.seat c.of.result c.take_one-taken.new.last c.bring_in.ensures.own first here c.of.ensures
 
 pub returns-clause-changes : goal.returns-clause-changes
 returns-clause-changes g c =
@@ -30,11 +30,11 @@ returns-clause-changes g c =
     let first = ap (λ (s : Seats g.row.B.Denot). s.by) c.bring_in.ensures.brings.same ∙ c.requires.first in
     let is : c.in-Some.pass ≡ seats.arrivals = some_same (sym c.in-Some.is ∙ there_first g.B.TableName.table c.args.locks.now seats c.bring_in.ensures.own first) in
     let made = c.take_one-taken.ensures in
-    let takes : PassTakes c.in-Some.pass c.take_one-taken.new.pass seats.last c.take_one-taken.new.last =
+    let takes : PassTakes c.in-Some.pass c.take_one-taken.new.seat seats.last c.take_one-taken.new.last =
     record { same = made.same; turns = made.turns; begins = made.begins; step = made.step; stamp = made.stamp; sends = made.sends } in
-    let here = subst (λ (p : ArrivalsPass). PassTakes p c.take_one-taken.new.pass seats.last c.take_one-taken.new.last) is takes in
+    let here = subst (λ (p : ArrivalsPass). PassTakes p c.take_one-taken.new.seat seats.last c.take_one-taken.new.last) is takes in
     changes_on c.args.self.now seats _ (brings_change c.args.self.now seats c.bring_in.ensures.brings)
-    (waiting_changes g.B.TableName.table c.args.locks.now seats c.take_one-taken.new.pass c.of.result c.take_one-taken.new.last c.bring_in.ensures.own first here c.of.ensures)
+    (waiting_changes g.B.TableName.table c.args.locks.now seats c.take_one-taken.new.seat c.of.result c.take_one-taken.new.last c.bring_in.ensures.own first here c.of.ensures)
 
 pub returns-clause-took : goal.returns-clause-took
 returns-clause-took g c =
@@ -42,13 +42,13 @@ returns-clause-took g c =
     let first = ap (λ (s : Seats g.row.B.Denot). s.by) c.bring_in.ensures.brings.same ∙ c.requires.first in
     let is : c.in-Some.pass ≡ seats.arrivals = some_same (sym c.in-Some.is ∙ there_first g.B.TableName.table c.args.locks.now seats c.bring_in.ensures.own first) in
     let made = c.take_one-taken.ensures in
-    let takes : PassTakes c.in-Some.pass c.take_one-taken.new.pass seats.last c.take_one-taken.new.last =
+    let takes : PassTakes c.in-Some.pass c.take_one-taken.new.seat seats.last c.take_one-taken.new.last =
     record { same = made.same; turns = made.turns; begins = made.begins; step = made.step; stamp = made.stamp; sends = made.sends } in
-    let here = subst (λ (p : ArrivalsPass). PassTakes p c.take_one-taken.new.pass seats.last c.take_one-taken.new.last) is takes in
+    let here = subst (λ (p : ArrivalsPass). PassTakes p c.take_one-taken.new.seat seats.last c.take_one-taken.new.last) is takes in
     if_both _ _ _ c.take_one-taken.result
     (λ list took newest. takes_on c.args.self.now seats _ list.items c.bring_in.ensures.brings
-    (waiting_took g.B.TableName.table c.args.locks.now seats c.take_one-taken.new.pass c.of.result c.take_one-taken.new.last c.bring_in.ensures.own first here c.of.ensures list.items took newest))
-    (subst (λ (p : ArrivalsPass). IfOk c.take_one-taken.result (λ list. TookOne p c.take_one-taken.new.pass list.items)) is made.took) made.newest
+    (waiting_took g.B.TableName.table c.args.locks.now seats c.take_one-taken.new.seat c.of.result c.take_one-taken.new.last c.bring_in.ensures.own first here c.of.ensures list.items took newest))
+    (subst (λ (p : ArrivalsPass). IfOk c.take_one-taken.result (λ list. TookOne p c.take_one-taken.new.seat list.items)) is made.took) made.newest
 
 pub returns-clause-stays : goal.returns-clause-stays
 returns-clause-stays g c =
@@ -56,13 +56,13 @@ returns-clause-stays g c =
     let first = ap (λ (s : Seats g.row.B.Denot). s.by) c.bring_in.ensures.brings.same ∙ c.requires.first in
     let is : c.in-Some.pass ≡ seats.arrivals = some_same (sym c.in-Some.is ∙ there_first g.B.TableName.table c.args.locks.now seats c.bring_in.ensures.own first) in
     let made = c.take_one-taken.ensures in
-    let takes : PassTakes c.in-Some.pass c.take_one-taken.new.pass seats.last c.take_one-taken.new.last =
+    let takes : PassTakes c.in-Some.pass c.take_one-taken.new.seat seats.last c.take_one-taken.new.last =
     record { same = made.same; turns = made.turns; begins = made.begins; step = made.step; stamp = made.stamp; sends = made.sends } in
-    let here = subst (λ (p : ArrivalsPass). PassTakes p c.take_one-taken.new.pass seats.last c.take_one-taken.new.last) is takes in
+    let here = subst (λ (p : ArrivalsPass). PassTakes p c.take_one-taken.new.seat seats.last c.take_one-taken.new.last) is takes in
     if_not _ _ c.take_one-taken.result
-    (λ fault stays. as_before_on c.args.self.now seats (record seats { arrivals = c.of.result; pass = Some c.take_one-taken.new.pass; last = c.take_one-taken.new.last }) c.bring_in.ensures.brings
-    (waiting_stays g.B.TableName.table c.args.locks.now seats c.take_one-taken.new.pass c.of.result c.take_one-taken.new.last c.bring_in.ensures.own first here c.of.ensures stays))
-    (subst (λ (p : ArrivalsPass). IfErr c.take_one-taken.result (λ fault. c.take_one-taken.new.pass ≡ p)) is made.stays)
+    (λ fault stays. as_before_on c.args.self.now seats (record seats { arrivals = c.of.result; pass = Some c.take_one-taken.new.seat; last = c.take_one-taken.new.last }) c.bring_in.ensures.brings
+    (waiting_stays g.B.TableName.table c.args.locks.now seats c.take_one-taken.new.seat c.of.result c.take_one-taken.new.last c.bring_in.ensures.own first here c.of.ensures stays))
+    (subst (λ (p : ArrivalsPass). IfErr c.take_one-taken.result (λ fault. c.take_one-taken.new.seat ≡ p)) is made.stays)
 
 pub returns-clause-brought : goal.returns-clause-brought
 returns-clause-brought g c =

@@ -1,7 +1,7 @@
 use Rattle.std.proofs.Common.{subst, sym}
 use Rattle.sf_live_seats.specs.Shared.{IsHome, SharedOf, home_of}
 use Rattle.sf_live_seats.proofs.DeskHomes.{at_home}
-use Rattle.sf_live_seats.proofs.shared.SharedDesk.into_seats.Goals as goal
+use Rattle.sf_live_seats.proofs.shared.SharedDesk.into_parts.Goals as goal
 
 pub returns-clause-own : goal.returns-clause-own
 returns-clause-own g c = λ locks home.
