@@ -39,6 +39,11 @@ pub struct Line {
 }
 
 impl Line {
+    /// A lock under which nothing arrived.
+    pub fn new(alloc: Global) -> Option<Line> {
+        Line::open(alloc, Arrivals::new(alloc).ok()?)
+    }
+
     /// A lock over what arrived so far.
     pub fn open(alloc: Global, arrivals: Arrivals<Page, Brand>) -> Option<Line> {
         let (lock, mut first) = CallLock::open(alloc, arrivals, 1).ok()?;
@@ -65,13 +70,16 @@ impl Line {
     }
 
     /// What arrived, out of the lock, after the first pass met the other.
-    pub fn close(self) -> Option<Arrivals<Page, Brand>> {
+    pub fn close(self) -> Arrivals<Page, Brand> {
         let Line {
             lock,
             mut first,
             second,
         } = self;
         first.meet(&lock, second);
-        lock.close(first).ok()
+        match lock.close(first) {
+            Ok(arrivals) => arrivals,
+            Err(_) => unreachable!(),
+        }
     }
 }

@@ -27,6 +27,7 @@
 #![tactic(auto)]
 
 mod compositor;
+mod form;
 mod line;
 mod run;
 mod told;

@@ -1,4 +1,5 @@
 //! What calls answered and what vsyncs did, as lines of text.
+use crate::form::Find;
 use sf_base::{Fence, TimelineId, TokenId};
 use sf_commit::{Commit, Release, Vsync};
 use sf_picture::Painted;
@@ -109,6 +110,34 @@ pub fn tell_vsync(told: &mut String, vsync: &Vsync<Page>) -> Result<(), AllocErr
     tell_held(told, vsync.held.as_slice())
 }
 
+/// What was found in the queues.
+pub fn tell_found(
+    told: &mut String,
+    find: Find,
+    number: u32,
+    found: Option<u32>,
+) -> Result<(), AllocError> {
+    let (of, what) = match find {
+        Find::Number => ("number", "token"),
+        _ => ("token", "number"),
+    };
+    match found {
+        Some(found) => writeln!(told, "{of} {number}: {what} {found}"),
+        None => writeln!(told, "{of} {number}: nothing"),
+    }
+}
+
+/// What a drawn layer shows.
+fn tell_layer(told: &mut String, layer: u32, shown: Option<&Painted>) -> Result<(), AllocError> {
+    match shown {
+        Some(painted) => {
+            let number = painted.picture().number;
+            writeln!(told, "  layer {layer} shows {number}")
+        }
+        None => writeln!(told, "  layer {layer} shows nothing"),
+    }
+}
+
 /// The picture that each drawn layer shows: that of its place in the contents.
 pub fn tell_layers(
     told: &mut String,
@@ -117,11 +146,7 @@ pub fn tell_layers(
 ) -> Result<(), AllocError> {
     let drawn = vsync.view.drawn.as_slice();
     for (one, source) in drawn.iter().zip(vsync.sources.as_slice()) {
-        write!(told, "  layer {} shows ", one.layer.0)?;
-        match contents.get(*source as usize) {
-            Some(painted) => writeln!(told, "{}", painted.picture().number)?,
-            None => writeln!(told, "nothing")?,
-        }
+        tell_layer(told, one.layer.0, contents.get(*source as usize))?;
     }
     Ok(())
 }

@@ -2,6 +2,7 @@
 //! that answers.
 use crate::answer::Answer;
 use crate::compose::Composer;
+use crate::line::{Ask, Keep, LINES, Line, Look, Number, Use};
 use crate::made::Made;
 use crate::{answer, compose, fill, frames, operation, read, scene, show};
 use sf_base::{LayerId, NoMemory, TokenId};
@@ -15,7 +16,7 @@ use std::str::SplitWhitespace;
 use std::thread::Threads;
 use std::{io, mem};
 use test_leases::Page;
-use test_words::{any_layer, number32, number64};
+use test_words::{any_layer, named, number32, number64};
 
 /// What a case has come to.
 #[derive(Drop)]
@@ -51,6 +52,21 @@ fn many(alloc: Global, words: &mut SplitWhitespace<'_>) -> Option<Vec<(LayerId, 
     Some(ops)
 }
 
+/// The kept operations, which are none then.
+fn take_ops(alloc: Global, ops: &mut Vec<(LayerId, Op)>) -> Vec<(LayerId, Op)> {
+    mem::replace(ops, Vec::new(alloc))
+}
+
+/// Keeps the operation on a layer that a line says.
+fn keep_operation(
+    ops: &mut Vec<(LayerId, Op)>,
+    layer: &str,
+    words: &mut SplitWhitespace<'_>,
+) -> Option<()> {
+    let layer = LayerId(layer.parse().ok()?);
+    ops.push((layer, operation::parse(words)?)).ok()
+}
+
 impl Case {
     pub fn new(alloc: Global) -> Result<Case, AllocError> {
         match Tree::new(alloc) {
@@ -68,110 +84,84 @@ impl Case {
         }
     }
 
-    /// The kept operations, which are none then.
-    fn take_ops(&mut self) -> Vec<(LayerId, Op)> {
-        mem::replace(&mut self.ops, Vec::new(self.alloc))
-    }
-
-    /// The transaction, which is empty then.
-    fn take_txn(&mut self) -> Transaction<Page> {
-        mem::replace(&mut self.txn, Transaction::new(self.alloc))
-    }
-
-    /// Does what a line says that prints nothing.
-    fn keep(&mut self, name: &str, words: &mut SplitWhitespace<'_>) -> Option<()> {
-        match name {
-            "limit" => self.tree = limited(self.alloc, words)?,
-            "many" => self.ops = many(self.alloc, words)?,
-            "keep" => self.before = Some(scene::viewed(self.alloc, &self.tree, words)?),
-            "other" => mem::swap(&mut self.txn, &mut self.other),
-            "token" => self.txn.address(TokenId(number32(words)?)),
-            "desire" => self.txn.desire(number64(words)?),
-            "barrier" => {
+    /// Keeps what a line says.
+    fn keep(&mut self, what: Keep, words: &mut SplitWhitespace<'_>) -> Option<()> {
+        match what {
+            Keep::Limit => self.tree = limited(self.alloc, words)?,
+            Keep::Many => self.ops = many(self.alloc, words)?,
+            Keep::View => self.before = Some(scene::viewed(self.alloc, &self.tree, words)?),
+            Keep::Other => mem::swap(&mut self.txn, &mut self.other),
+            Keep::Token => self.txn.address(TokenId(number32(words)?)),
+            Keep::Desire => self.txn.desire(number64(words)?),
+            Keep::Barrier => {
                 let layer = any_layer(words)?;
                 self.txn.add_barrier(layer, number64(words)?).ok()?;
-            }
-            layer => {
-                let layer = LayerId(layer.parse().ok()?);
-                self.ops.push((layer, operation::parse(words)?)).ok()?;
             }
         }
         Some(())
     }
 
-    /// Does what a line says of kept operations and transactions. Answers whether it says something.
-    fn use_kept(&mut self, rt: &impl Print, name: &str) -> io::Result<bool> {
-        match name {
-            "kinds" => scene::kinds(rt, &self.take_ops())?,
-            "apply" => {
-                let ops = self.take_ops();
-                scene::apply(rt, &mut self.tree, &ops)?;
+    /// Does what a line says of kept operations and transactions.
+    fn use_kept(&mut self, rt: &impl Print, what: Use) -> io::Result<()> {
+        match what {
+            Use::Kinds => scene::kinds(rt, &take_ops(self.alloc, &mut self.ops)),
+            Use::Apply => {
+                let ops = take_ops(self.alloc, &mut self.ops);
+                scene::apply(rt, &mut self.tree, &ops)
             }
-            "set" => {
-                let ops = self.take_ops();
-                fill::set_all(rt, &mut self.txn, &ops)?;
+            Use::Set => {
+                let ops = take_ops(self.alloc, &mut self.ops);
+                fill::set_all(rt, &mut self.txn, &ops)
             }
-            "commit" => match self.txn.ops() {
-                Ok(ops) => scene::apply(rt, &mut self.tree, ops.as_slice())?,
-                Err(NoMemory) => println!(rt; "commit: no memory")?,
+            Use::Commit => match self.txn.ops() {
+                Ok(ops) => scene::apply(rt, &mut self.tree, ops.as_slice()),
+                Err(NoMemory) => println!(rt; "commit: no memory"),
             },
-            "merge" => {
-                let txn = self.take_txn();
-                let other = mem::replace(&mut self.other, Transaction::new(self.alloc));
-                self.txn = fill::merge(rt, txn, other)?;
-            }
-            "show" => fill::show_all(rt, &self.txn)?,
-            "order" => scene::order(rt, &self.tree)?,
-            _ => return Ok(false),
+            Use::Merge => fill::merge(rt, self.alloc, &mut self.txn, &mut self.other),
+            Use::Show => fill::show_all(rt, &self.txn),
+            Use::Order => scene::order(rt, &self.tree),
         }
-        Ok(true)
     }
 
-    /// Does what a line says of a layer or a count. Answers whether it says something.
+    /// Does what a line says of a layer or a count.
     fn use_number(
         &mut self,
         rt: &impl Print,
-        name: &str,
+        what: Number,
         words: &mut SplitWhitespace<'_>,
-    ) -> io::Result<bool> {
-        let Some(number) = number32(words) else {
-            return Ok(false);
-        };
-        match name {
-            "above" => scene::above(rt, self.alloc, &self.tree, LayerId(number))?,
-            "look" => read::look(rt, self.alloc, &mut self.txn, number)?,
-            "read" => read::read(rt, self.alloc, self.take_txn(), number)?,
-            "marks" => {
-                let total = frames::marks(self.alloc, &self.tree, &self.before, number);
-                frames::print_marks(rt, total)?;
+    ) -> Option<io::Result<()>> {
+        let number = number32(words)?;
+        let alloc = self.alloc;
+        let printed = match what {
+            Number::Above => scene::above(rt, alloc, &self.tree, LayerId(number)),
+            Number::Look => read::look(rt, alloc, &mut self.txn, number),
+            Number::Read => {
+                let txn = mem::replace(&mut self.txn, Transaction::new(alloc));
+                read::read(rt, alloc, txn, number)
             }
-            _ => match number32(words) {
-                Some(frame) => {
-                    fill::set_buffer(rt, self.alloc, &mut self.txn, LayerId(number), frame)?
-                }
-                None => return Ok(false),
-            },
-        }
-        Ok(true)
+            Number::Marks => frames::marked(rt, alloc, &self.tree, &self.before, number),
+            Number::Buffer => {
+                let frame = number32(words)?;
+                fill::set_buffer(rt, alloc, &mut self.txn, LayerId(number), frame)
+            }
+        };
+        Some(printed)
     }
 
-    /// Prints what a line asks of a view. Answers whether it asks for something.
+    /// Prints what a line asks of a view.
     fn look_at(
         &self,
         rt: &impl Print,
-        name: &str,
+        what: Look,
         words: &mut SplitWhitespace<'_>,
-    ) -> io::Result<bool> {
-        let Some(view) = scene::viewed(self.alloc, &self.tree, words) else {
-            return Ok(false);
-        };
-        match (name, &self.before) {
-            ("view", _) => show::view(rt, &view)?,
-            ("shows", _) => frames::shows(rt, self.alloc, &view)?,
-            (_, Some(before)) => frames::changed(rt, self.alloc, before, &view)?,
-            _ => return Ok(false),
+    ) -> Option<io::Result<()>> {
+        let view = scene::viewed(self.alloc, &self.tree, words)?;
+        match (what, &self.before) {
+            (Look::View, _) => Some(show::view(rt, &view)),
+            (Look::Shows, _) => Some(frames::shows(rt, self.alloc, &view)),
+            (Look::Dirty, Some(before)) => Some(frames::changed(rt, self.alloc, before, &view)),
+            (Look::Dirty, None) => None,
         }
-        Ok(true)
     }
 
     /// The pixels that a line asks for.
@@ -204,14 +194,13 @@ impl Case {
     }
 
     /// Does what a line says of regions, rows, pictures, fences and statuses.
-    fn answer_to(&mut self, name: &str, words: &mut SplitWhitespace<'_>) -> Option<Answer> {
+    fn answer_to(&mut self, what: Ask, words: &mut SplitWhitespace<'_>) -> Option<Answer> {
         let form = words.next()?;
-        match name {
-            "region" => self.made.region(form, words),
-            "row" => self.made.row(form, words),
-            "fence" => self.made.fence(form, words),
-            "status" => Some(Answer::Statuses),
-            _ => match form.parse() {
+        match what {
+            Ask::Region => self.made.region(form, words),
+            Ask::Row => self.made.row(form, words),
+            Ask::Fence => self.made.fence(form, words),
+            Ask::Picture => match form.parse() {
                 Ok(width) => {
                     let number = self.contents.len();
                     let picture = compose::painted(self.alloc, number, width, words)?;
@@ -220,33 +209,38 @@ impl Case {
                 }
                 Err(_) => self.made.picture(form, words),
             },
+            Ask::Status => Some(Answer::Statuses),
         }
     }
 
-    /// Does what a line says. Answers whether it says something.
-    fn use_line<R: Print + Threads + Sync>(&mut self, rt: &R, line: &str) -> io::Result<bool> {
+    /// Does what a line says. None where it says nothing.
+    fn use_line<R: Print + Threads + Sync>(
+        &mut self,
+        rt: &R,
+        line: &str,
+    ) -> Option<io::Result<()>> {
         let mut words = line.split_whitespace();
-        let Some(name) = words.next() else {
-            return Ok(true);
-        };
-        match name {
-            "above" | "look" | "read" | "marks" | "buffer" => {
-                self.use_number(rt, name, &mut words)
+        let name = words.next()?;
+        match named(LINES, name) {
+            Some(Line::Keep(what)) => {
+                self.keep(what, &mut words)?;
+                Some(Ok(()))
             }
-            "view" | "shows" | "dirty" => self.look_at(rt, name, &mut words),
-            "frame" | "again" | "turns" | "part" | "parallel" | "seen" => {
+            Some(Line::Use(what)) => Some(self.use_kept(rt, what)),
+            Some(Line::Number(what)) => self.use_number(rt, what, &mut words),
+            Some(Line::Look(what)) => self.look_at(rt, what, &mut words),
+            Some(Line::Pixels) => {
                 let pixels = self.pixels(rt, name, &mut words);
-                show::frame(rt, name, pixels)?;
-                Ok(true)
+                Some(show::frame(rt, name, pixels))
             }
-            "region" | "row" | "picture" | "fence" | "status" => {
-                match self.answer_to(name, &mut words) {
-                    Some(answer) => answer::print(rt, line, &answer)?,
-                    None => return Ok(false),
-                }
-                Ok(true)
+            Some(Line::Ask(what)) => {
+                let answer = self.answer_to(what, &mut words)?;
+                Some(answer::print(rt, line, &answer))
             }
-            _ => Ok(self.use_kept(rt, name)? || self.keep(name, &mut words).is_some()),
+            None => {
+                keep_operation(&mut self.ops, name, &mut words)?;
+                Some(Ok(()))
+            }
         }
     }
 
@@ -255,9 +249,11 @@ impl Case {
         if line.starts_with("case ") {
             println!(rt; "{line}")?;
             *self = Case::new(self.alloc)?;
-        } else if !self.use_line(rt, line)? {
-            println!(rt; "{line}: says nothing")?;
+            return Ok(());
         }
-        Ok(())
+        match self.use_line(rt, line) {
+            Some(printed) => printed,
+            None => println!(rt; "{line}: says nothing"),
+        }
     }
 }

@@ -8,7 +8,7 @@ use sf_base::{Fence, LayerId, NoMemory, QueueId, Rect};
 use sf_layer::{Op, Shown};
 use sf_txn::{BufferOp, Transaction};
 use std::alloc::Global;
-use std::io;
+use std::{io, mem};
 use test_leases::Page;
 
 /// Whether a transaction may be given the operation without a lease.
@@ -115,21 +115,25 @@ pub fn show_all(rt: &impl Print, txn: &Transaction<Page>) -> io::Result<()> {
     Ok(())
 }
 
-/// Merges another transaction into one, and prints the frames whose places others took.
+/// Merges another transaction, which is empty then, into one, and prints the frames whose places
+/// others took.
 pub fn merge(
     rt: &impl Print,
-    txn: Transaction<Page>,
-    other: Transaction<Page>,
-) -> io::Result<Transaction<Page>> {
-    match txn.merge(other) {
+    alloc: Global,
+    txn: &mut Transaction<Page>,
+    other: &mut Transaction<Page>,
+) -> io::Result<()> {
+    let first = mem::replace(txn, Transaction::new(alloc));
+    let second = mem::replace(other, Transaction::new(alloc));
+    match first.merge(second) {
         Ok((merged, replaced)) => {
+            *txn = merged;
             println!(rt; "merge: replaces {} frames", replaced.len())?;
-            buffers(rt, &replaced)?;
-            Ok(merged)
+            buffers(rt, &replaced)
         }
-        Err((NoMemory, txn, _)) => {
-            println!(rt; "merge: no memory")?;
-            Ok(txn)
+        Err((NoMemory, first, _)) => {
+            *txn = first;
+            println!(rt; "merge: no memory")
         }
     }
 }

@@ -140,7 +140,7 @@ pub fn turns<R: Threads + Sync>(
 
 /// How many rectangles come of looking so many times at what a display shows of a tree: those of
 /// what shows of each layer, and those of where the view differs from one before.
-pub fn marks(alloc: Global, tree: &Tree, before: &Option<View>, count: u32) -> Option<usize> {
+fn marks(alloc: Global, tree: &Tree, before: &Option<View>, count: u32) -> Option<usize> {
     let before = before.as_ref()?;
     let mut total = 0usize;
     for _ in 0..count {
@@ -154,9 +154,15 @@ pub fn marks(alloc: Global, tree: &Tree, before: &Option<View>, count: u32) -> O
     Some(total)
 }
 
-/// Prints how many rectangles came.
-pub fn print_marks(rt: &impl Print, total: Option<usize>) -> io::Result<()> {
-    match total {
+/// Looks so many times, and prints how many rectangles came.
+pub fn marked(
+    rt: &impl Print,
+    alloc: Global,
+    tree: &Tree,
+    before: &Option<View>,
+    count: u32,
+) -> io::Result<()> {
+    match marks(alloc, tree, before, count) {
         Some(total) => println!(rt; "marks: {total}"),
         None => println!(rt; "marks: nothing to show"),
     }

@@ -66,6 +66,7 @@ mod compose;
 mod fences;
 mod fill;
 mod frames;
+mod line;
 mod made;
 mod operation;
 mod pictures;
@@ -77,11 +78,10 @@ mod show;
 
 use case::Case;
 use std::io;
-use std::io::{BufRead, BufReader};
 
 fn main(rt: HostRuntime) -> io::Result<()> {
     let mut case = Case::new(rt.alloc())?;
-    for line in BufReader::new(rt.alloc(), rt.reader())?.lines(rt.alloc()) {
+    for line in rt.lines(rt.alloc()) {
         let line = line?;
         let line = line.trim();
         if !line.is_empty() && !line.starts_with('#') {

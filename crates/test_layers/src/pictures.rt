@@ -4,86 +4,136 @@ ghost use Rattle.sf_picture.specs.Pixels.{HasSize};
 
 use crate::answer::Answer;
 use crate::made::Made;
-use crate::rows::{format_of, hex_colour};
-use sf_base::Items;
+use crate::rows::hex_colour;
+use sf_base::{Format, Items};
 use sf_picture::{Fill, Painted, Picture, blank, paint};
 use std::alloc::Global;
 use std::str::SplitWhitespace;
-use test_words::{buffer_size, is_buffer_size, number32, rect};
+use test_words::{buffer_size, is_buffer_size, named, number32, rect};
+
+/// A new picture.
+#[derive(Clone, Copy)]
+enum New {
+    /// A copy of the uppermost one.
+    Copy,
+    Blank,
+    /// One without fills.
+    Plain(Format),
+}
+
+/// What is asked of pictures.
+#[derive(Clone, Copy)]
+enum Ask {
+    Same,
+    Pixel,
+    Bytes,
+    Sums,
+}
+
+/// What a word asks for.
+#[derive(Clone, Copy)]
+enum Form {
+    New(New),
+    Fill,
+    Paint,
+    Repaint,
+    Ask(Ask),
+}
+
+/// The words of pictures.
+const FORMS: &[(&str, Form)] = &[
+    ("copy", Form::New(New::Copy)),
+    ("blank", Form::New(New::Blank)),
+    ("rgba", Form::New(New::Plain(Format::Rgba))),
+    ("rgbx", Form::New(New::Plain(Format::Rgbx))),
+    ("rgb565", Form::New(New::Plain(Format::Rgb565))),
+    ("fill", Form::Fill),
+    ("paint", Form::Paint),
+    ("repaint", Form::Repaint),
+    ("same", Form::Ask(Ask::Same)),
+    ("pixel", Form::Ask(Ask::Pixel)),
+    ("bytes", Form::Ask(Ask::Bytes)),
+    ("sums", Form::Ask(Ask::Sums)),
+];
 
 impl Made {
     /// Does what a line says of pictures. None where it can't be done.
-    pub fn picture(&mut self, form: &str, words: &mut SplitWhitespace<'_>) -> Option<Answer> {
-        match form {
-            "fill" => {
+    pub fn picture(&mut self, word: &str, words: &mut SplitWhitespace<'_>) -> Option<Answer> {
+        match named(FORMS, word)? {
+            Form::New(what) => {
+                let picture = drawn(self.alloc, &self.pictures, what, words)?;
+                self.pictures.push(picture).ok()?;
+            }
+            Form::Fill => {
                 let fill = Fill {
                     rect: rect(words)?,
                     colour: hex_colour(words)?,
                 };
                 self.pictures.last_mut()?.fills.push(fill).ok()?;
             }
-            "paint" => {
-                let picture = self.take_picture()?;
+            Form::Paint => {
+                let picture = take_picture(&mut self.pictures)?;
                 self.painted = Some(paint(self.alloc, picture).ok()?);
             }
-            "repaint" => {
-                let picture = self.take_picture()?;
+            Form::Repaint => {
+                let picture = take_picture(&mut self.pictures)?;
                 self.painted = Some(repainted(self.painted.take()?, picture)?);
             }
-            "same" | "pixel" | "bytes" | "sums" => return self.ask_picture(form, words),
-            _ => {
-                let picture = self.drawn(form, words)?;
-                self.pictures.push(picture).ok()?;
-            }
+            Form::Ask(what) => return self.asked(what, words),
         }
         Some(Answer::Done)
     }
 
-    /// A copy of the uppermost picture, a blank one, or one without fills of a format, a number and a size.
-    fn drawn(&self, form: &str, words: &mut SplitWhitespace<'_>) -> Option<Picture> {
-        match form {
-            "copy" => self.pictures.last()?.copy(self.alloc).ok(),
-            "blank" => {
-                let size = buffer_size(words)?;
-                Some(blank(self.alloc, size.width, size.height))
-            }
-            _ => Some(Picture {
-                format: format_of(form)?,
-                number: number32(words)?,
-                width: number32(words)?,
-                height: number32(words)?,
-                fills: Items::new(Vec::new(self.alloc)),
-            }),
-        }
-    }
-
     /// Compares the upper two pictures, which are taken, asks for a pixel of the uppermost, or for
     /// what was painted last.
-    fn ask_picture(&mut self, form: &str, words: &mut SplitWhitespace<'_>) -> Option<Answer> {
-        match form {
-            "same" => {
+    fn asked(&mut self, what: Ask, words: &mut SplitWhitespace<'_>) -> Option<Answer> {
+        match what {
+            Ask::Same => {
                 let second = self.pictures.pop()?;
                 Some(Answer::Is(self.pictures.pop()?.is_same(&second)))
             }
-            "pixel" => pixel(self.pictures.last()?, words),
-            "bytes" => {
+            Ask::Pixel => pixel(self.pictures.last()?, words),
+            Ask::Bytes => {
                 let bytes = self.painted.as_ref()?.bytes();
                 Some(Answer::Bytes(Vec::from_slice(self.alloc, bytes).ok()?))
             }
-            _ => Some(Answer::Sums(sums(self.painted.as_ref()?.bytes()))),
+            Ask::Sums => Some(Answer::Sums(sums(self.painted.as_ref()?.bytes()))),
         }
     }
+}
 
-    /// Takes the uppermost picture.
-    fn take_picture(&mut self) -> Option<Picture>
-        ensures { IfSome result (λ picture. HasSize picture) }
-    {
-        let picture = self.pictures.pop()?;
-        if is_buffer_size(picture.width, picture.height) {
-            Some(picture)
-        } else {
-            None
+/// A copy of the uppermost picture, a blank one, or one without fills of a format, a number and a size.
+fn drawn(
+    alloc: Global,
+    pictures: &[Picture],
+    what: New,
+    words: &mut SplitWhitespace<'_>,
+) -> Option<Picture> {
+    match what {
+        New::Copy => pictures.last()?.copy(alloc).ok(),
+        New::Blank => {
+            let size = buffer_size(words)?;
+            Some(blank(alloc, size.width, size.height))
         }
+        New::Plain(format) => Some(Picture {
+            format,
+            number: number32(words)?,
+            width: number32(words)?,
+            height: number32(words)?,
+            fills: Items::new(Vec::new(alloc)),
+        }),
+    }
+}
+
+/// Takes the uppermost picture.
+fn take_picture(pictures: &mut Vec<Picture>) -> Option<Picture>
+    ensures { IfSome result (λ picture. HasSize picture) }
+{
+    let picture = pictures.pop()?;
+    if is_buffer_size(picture.width, picture.height) {
+        Some(picture)
+    } else {
+        None
     }
 }
 

@@ -8,54 +8,97 @@ use sf_base::{NoMemory, Rect};
 use sf_region::Region;
 use std::alloc::Global;
 use std::str::SplitWhitespace;
-use test_words::{coordinate, rect};
+use test_words::{coordinate, named, rect};
 
 const FAR: i64 = 33554432;
 
+/// How a region is made of two.
+#[derive(Clone, Copy)]
+enum Combine {
+    Union,
+    Intersect,
+    Subtract,
+}
+
+/// What is asked of regions.
+#[derive(Clone, Copy)]
+enum Ask {
+    Same,
+    Point,
+    Rects,
+}
+
+/// What a word asks for.
+#[derive(Clone, Copy)]
+enum Form {
+    Empty,
+    Rect,
+    Moved,
+    Combine(Combine),
+    Ask(Ask),
+}
+
+/// The words of regions.
+const FORMS: &[(&str, Form)] = &[
+    ("empty", Form::Empty),
+    ("rect", Form::Rect),
+    ("moved", Form::Moved),
+    ("union", Form::Combine(Combine::Union)),
+    ("intersect", Form::Combine(Combine::Intersect)),
+    ("subtract", Form::Combine(Combine::Subtract)),
+    ("same", Form::Ask(Ask::Same)),
+    ("point", Form::Ask(Ask::Point)),
+    ("rects", Form::Ask(Ask::Rects)),
+];
+
+/// What comes of the upper two, which are taken.
+fn combined(regions: &mut Vec<Region>, by: Combine) -> Option<Region> {
+    let second = regions.pop()?;
+    let first = regions.pop()?;
+    let region = match by {
+        Combine::Union => first.union(&second),
+        Combine::Intersect => first.intersect(&second),
+        Combine::Subtract => first.subtract(&second),
+    };
+    region.ok()
+}
+
+/// Whether the upper two, which are taken, are the same; whether the uppermost has a point, or its
+/// rectangles.
+fn asked(
+    alloc: Global,
+    regions: &mut Vec<Region>,
+    what: Ask,
+    words: &mut SplitWhitespace<'_>,
+) -> Option<Answer> {
+    match what {
+        Ask::Same => {
+            let second = regions.pop()?;
+            Some(Answer::Is(regions.pop()?.is_same(&second)))
+        }
+        Ask::Point => {
+            let (x, y) = (coordinate(words)?, coordinate(words)?);
+            Some(Answer::Is(regions.last()?.contains(x, y)))
+        }
+        Ask::Rects => {
+            let rects = regions.last()?.rects();
+            Some(Answer::Rects(Vec::from_slice(alloc, rects).ok()?))
+        }
+    }
+}
+
 impl Made {
     /// Does what a line says of regions. None where it can't be done.
-    pub fn region(&mut self, form: &str, words: &mut SplitWhitespace<'_>) -> Option<Answer> {
-        let region = match form {
-            "empty" => Region::empty(self.alloc),
-            "rect" => bounded(self.alloc, rect(words)?)?,
-            "moved" => moved_rect(self.alloc, words)?,
-            "union" | "intersect" | "subtract" => self.combined(form)?,
-            _ => return self.ask_region(form, words),
+    pub fn region(&mut self, word: &str, words: &mut SplitWhitespace<'_>) -> Option<Answer> {
+        let region = match named(FORMS, word)? {
+            Form::Empty => Region::empty(self.alloc),
+            Form::Rect => bounded(self.alloc, rect(words)?)?,
+            Form::Moved => moved_rect(self.alloc, words)?,
+            Form::Combine(by) => combined(&mut self.regions, by)?,
+            Form::Ask(what) => return asked(self.alloc, &mut self.regions, what, words),
         };
         self.regions.push(region).ok()?;
         Some(Answer::Done)
-    }
-
-    /// What comes of the upper two, which are taken.
-    fn combined(&mut self, form: &str) -> Option<Region> {
-        let second = self.regions.pop()?;
-        let first = self.regions.pop()?;
-        let region = match form {
-            "union" => first.union(&second),
-            "intersect" => first.intersect(&second),
-            _ => first.subtract(&second),
-        };
-        region.ok()
-    }
-
-    /// Whether the upper two, which are taken, are the same; whether the uppermost has a point, or its
-    /// rectangles.
-    fn ask_region(&mut self, form: &str, words: &mut SplitWhitespace<'_>) -> Option<Answer> {
-        match form {
-            "same" => {
-                let second = self.regions.pop()?;
-                Some(Answer::Is(self.regions.pop()?.is_same(&second)))
-            }
-            "point" => {
-                let (x, y) = (coordinate(words)?, coordinate(words)?);
-                Some(Answer::Is(self.regions.last()?.contains(x, y)))
-            }
-            "rects" => {
-                let rects = self.regions.last()?.rects();
-                Some(Answer::Rects(Vec::from_slice(self.alloc, rects).ok()?))
-            }
-            _ => None,
-        }
     }
 }
 

@@ -7,7 +7,7 @@ use sf_base::{Format, Rgba, mul, over, seen_as};
 use sf_rows::{blend_colour, blend_row, blend_row_opaque, pick_row};
 use std::alloc::{AllocError, Global};
 use std::str::SplitWhitespace;
-use test_words::number8;
+use test_words::{named, number8};
 
 /// How many pixels a row has at most.
 const MOST_PIXELS: u32 = 64;
@@ -19,43 +19,93 @@ pub fn hex_colour(words: &mut SplitWhitespace<'_>) -> Option<Rgba> {
     Some(Rgba { r, g, b, a })
 }
 
+/// What is painted over a row.
+#[derive(Clone, Copy)]
+enum Paint {
+    Row,
+    Opaque,
+    Colour,
+}
+
+/// Which pixels are picked from a row.
+#[derive(Clone, Copy)]
+enum Pick {
+    /// All, from the last to the first.
+    Back,
+    /// Every fourth.
+    Column,
+}
+
+/// What comes of one or two colours or channels.
+#[derive(Clone, Copy)]
+enum Blend {
+    Mul,
+    Over,
+    SeenAs(Format),
+}
+
+/// What a word asks for.
+#[derive(Clone, Copy)]
+enum Form {
+    Frame,
+    Source,
+    Paint(Paint),
+    Pick(Pick),
+    Blend(Blend),
+}
+
+/// The words of rows.
+const FORMS: &[(&str, Form)] = &[
+    ("frame", Form::Frame),
+    ("source", Form::Source),
+    ("row", Form::Paint(Paint::Row)),
+    ("opaque", Form::Paint(Paint::Opaque)),
+    ("colour", Form::Paint(Paint::Colour)),
+    ("back", Form::Pick(Pick::Back)),
+    ("column", Form::Pick(Pick::Column)),
+    ("mul", Form::Blend(Blend::Mul)),
+    ("over", Form::Blend(Blend::Over)),
+    ("rgba", Form::Blend(Blend::SeenAs(Format::Rgba))),
+    ("rgbx", Form::Blend(Blend::SeenAs(Format::Rgbx))),
+    ("rgb565", Form::Blend(Blend::SeenAs(Format::Rgb565))),
+];
+
 impl Made {
     /// Does what a line says of rows. None where it can't be done.
-    pub fn row(&mut self, form: &str, words: &mut SplitWhitespace<'_>) -> Option<Answer> {
-        match form {
-            "frame" => self.frame = pixels(self.alloc, words)?,
-            "source" => self.source = pixels(self.alloc, words)?,
-            "row" | "opaque" | "colour" => return self.paint_row(form, words),
-            "back" | "column" => return self.pick(form),
-            _ => return blended(form, words),
+    pub fn row(&mut self, word: &str, words: &mut SplitWhitespace<'_>) -> Option<Answer> {
+        match named(FORMS, word)? {
+            Form::Frame => self.frame = pixels(self.alloc, words)?,
+            Form::Source => self.source = pixels(self.alloc, words)?,
+            Form::Paint(what) => return self.paint_row(what, words),
+            Form::Pick(which) => return self.pick(which),
+            Form::Blend(what) => return blended(what, words),
         }
         Some(Answer::Done)
     }
 
     /// Paints over a copy of the frame's row.
-    fn paint_row(&self, form: &str, words: &mut SplitWhitespace<'_>) -> Option<Answer> {
+    fn paint_row(&self, what: Paint, words: &mut SplitWhitespace<'_>) -> Option<Answer> {
         let mut row = Vec::from_slice(self.alloc, &self.frame).ok()?;
         if row.len() != self.source.len() || row.len() % 4 != 0 {
             return None;
         }
-        match form {
-            "row" => blend_row(&mut row, &self.source, number8(words)?),
-            "opaque" => blend_row_opaque(&mut row, &self.source, number8(words)?),
-            _ => blend_colour(&mut row, hex_colour(words)?, number8(words)?),
+        match what {
+            Paint::Row => blend_row(&mut row, &self.source, number8(words)?),
+            Paint::Opaque => blend_row_opaque(&mut row, &self.source, number8(words)?),
+            Paint::Colour => blend_colour(&mut row, hex_colour(words)?, number8(words)?),
         }
         Some(Answer::Bytes(row))
     }
 
     /// Picks the source's pixels from its end back, or every fourth of them.
-    fn pick(&self, form: &str) -> Option<Answer> {
+    fn pick(&self, which: Pick) -> Option<Answer> {
         let source = self.source.as_slice();
         if source.is_empty() || source.len() >= 4096 || source.len() % 4 != 0 {
             return None;
         }
-        let row = if form == "back" {
-            picked_back(self.alloc, source)
-        } else {
-            every_fourth(self.alloc, source)
+        let row = match which {
+            Pick::Back => picked_back(self.alloc, source),
+            Pick::Column => every_fourth(self.alloc, source),
         };
         Some(Answer::Bytes(row.ok()?))
     }
@@ -95,23 +145,13 @@ fn every_fourth(alloc: Global, source: &[u8]) -> Result<Vec<u8>, AllocError>
 }
 
 /// The product of two channels, a pixel over another, or what is seen of a colour in a format.
-fn blended(form: &str, words: &mut SplitWhitespace<'_>) -> Option<Answer> {
-    match form {
-        "mul" => Some(Answer::Channel(mul(number8(words)?, number8(words)?))),
-        "over" => {
+fn blended(what: Blend, words: &mut SplitWhitespace<'_>) -> Option<Answer> {
+    match what {
+        Blend::Mul => Some(Answer::Channel(mul(number8(words)?, number8(words)?))),
+        Blend::Over => {
             let (under, source) = (hex_colour(words)?, hex_colour(words)?);
             Some(Answer::Pixel(over(under, source, number8(words)?)))
         }
-        _ => Some(Answer::Pixel(seen_as(format_of(form)?, hex_colour(words)?))),
-    }
-}
-
-/// The format of this name.
-pub fn format_of(name: &str) -> Option<Format> {
-    match name {
-        "rgba" => Some(Format::Rgba),
-        "rgbx" => Some(Format::Rgbx),
-        "rgb565" => Some(Format::Rgb565),
-        _ => None,
+        Blend::SeenAs(format) => Some(Answer::Pixel(seen_as(format, hex_colour(words)?))),
     }
 }

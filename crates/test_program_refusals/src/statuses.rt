@@ -22,8 +22,8 @@ pub fn run_has_causes<R: Threads + Wait + Sync, S: Source, K: Sink, G: Gate + Sy
     gate: &G,
 ) -> u8
     ensures usage { result ≡ 1 → options_of (map string_bytes words.now) ≡ None }
-    ensures refused { let asked = options_of (map string_bytes words.now) in
-        result ≡ 2 → RefusedScript asked (S.left source.old) (S.left source.new) (K.taken sink.old) (K.taken sink.new) }
+    ensures refused { result ≡ 2
+        → RefusedScript (options_of (map string_bytes words.now)) (S.left source.old) (S.left source.new) (K.taken sink.old) (K.taken sink.new) }
     ensures read_failed { result ≡ 3 → Rose (S.faults source.old) (S.faults source.new) }
     ensures write_failed { result ≡ 4 → Rose (K.faults sink.old) (K.faults sink.new) }
 {

@@ -82,272 +82,114 @@ pub struct Said {
     pub right: u64,
 }
 
-/// How a line asks for a call: what stands after its name where rights are numbers, and where they
-/// are turns; None where a case of that kind can't ask for it.
-#[derive(Clone, Copy)]
-struct Form {
-    call: Call,
-    with_numbers: Option<&'static [Part]>,
-    with_turns: Option<&'static [Part]>,
-}
+/// A call, and what stands after its name.
+type Form = (Call, &'static [Part]);
 
-/// The forms of all calls, by their names.
-const FORMS: &[(&str, Form)] = &[
-    (
-        "connect",
-        Form {
-            call: Call::Connect,
-            with_numbers: Some(&[Part::Actor]),
-            with_turns: Some(&[]),
-        },
-    ),
-    (
-        "disconnect",
-        Form {
-            call: Call::Disconnect,
-            with_numbers: Some(&[Part::Actor]),
-            with_turns: Some(&[]),
-        },
-    ),
-    (
-        "maxdequeued",
-        Form {
-            call: Call::MaxDequeued,
-            with_numbers: Some(&[Part::Count]),
-            with_turns: Some(&[Part::Count]),
-        },
-    ),
-    (
-        "async",
-        Form {
-            call: Call::Async,
-            with_numbers: Some(&[Part::Count]),
-            with_turns: Some(&[Part::Count]),
-        },
-    ),
+/// The words of a call on a buffer in a slot, by the actor to which it is lent.
+const ON_LENT: &[Part] = &[Part::Actor, Part::Slot, Part::Number];
+
+/// The words of a call that takes back a buffer that nothing was queued in.
+const CANCEL: &[Part] = &[
+    Part::Actor,
+    Part::Slot,
+    Part::Number,
+    Part::Fence,
+    Part::Right,
+];
+
+/// The words of a call that queues a frame.
+const QUEUE: &[Part] = &[
+    Part::Actor,
+    Part::Slot,
+    Part::Number,
+    Part::Picture,
+    Part::Size,
+    Part::Time,
+    Part::Crop,
+    Part::Fence,
+    Part::Right,
+];
+
+/// The calls of a case whose rights are numbers.
+const WITH_NUMBERS: &[(&str, Form)] = &[
+    ("connect", (Call::Connect, &[Part::Actor])),
+    ("disconnect", (Call::Disconnect, &[Part::Actor])),
+    ("maxdequeued", (Call::MaxDequeued, &[Part::Count])),
+    ("async", (Call::Async, &[Part::Count])),
     (
         "dequeue",
-        Form {
-            call: Call::Dequeue,
-            with_numbers: Some(&[Part::Actor, Part::Size, Part::Right]),
-            with_turns: Some(&[Part::Place, Part::Size]),
-        },
+        (Call::Dequeue, &[Part::Actor, Part::Size, Part::Right]),
     ),
+    ("request", (Call::Request, ON_LENT)),
+    ("queue", (Call::Queue, QUEUE)),
+    ("queue-allowed", (Call::QueueAllowed, QUEUE)),
+    ("cancel", (Call::Cancel, CANCEL)),
+    ("cancel-allowed", (Call::CancelAllowed, CANCEL)),
+    ("detach", (Call::Detach, ON_LENT)),
+    ("detach-allowed", (Call::DetachAllowed, ON_LENT)),
+    ("attach", (Call::Attach, &[Part::Actor, Part::Size])),
+    ("maxacquired", (Call::MaxAcquired, &[Part::Count])),
+    ("abandon", (Call::Abandon, &[])),
+    ("acquire", (Call::Acquire, &[Part::Number])),
+    (
+        "release",
+        (
+            Call::Release,
+            &[Part::Slot, Part::Number, Part::Fence, Part::Right],
+        ),
+    ),
+    (
+        "detachread",
+        (Call::DetachRead, &[Part::Slot, Part::Number]),
+    ),
+    ("attachread", (Call::AttachRead, &[Part::Size])),
+    ("state", (Call::State, &[])),
+];
+
+/// The calls of a case whose rights are turns.
+const WITH_TURNS: &[(&str, Form)] = &[
+    ("connect", (Call::Connect, &[])),
+    ("disconnect", (Call::Disconnect, &[])),
+    ("maxdequeued", (Call::MaxDequeued, &[Part::Count])),
+    ("async", (Call::Async, &[Part::Count])),
+    ("dequeue", (Call::Dequeue, &[Part::Place, Part::Size])),
     (
         "dequeuewait",
-        Form {
-            call: Call::DequeueWait,
-            with_numbers: None,
-            with_turns: Some(&[Part::Place, Part::Size]),
-        },
+        (Call::DequeueWait, &[Part::Place, Part::Size]),
     ),
-    (
-        "request",
-        Form {
-            call: Call::Request,
-            with_numbers: Some(&[Part::Actor, Part::Slot, Part::Number]),
-            with_turns: Some(&[Part::Place]),
-        },
-    ),
+    ("request", (Call::Request, &[Part::Place])),
     (
         "queue",
-        Form {
-            call: Call::Queue,
-            with_numbers: Some(&[
-                Part::Actor,
-                Part::Slot,
-                Part::Number,
-                Part::Picture,
-                Part::Size,
-                Part::Time,
-                Part::Crop,
-                Part::Fence,
-                Part::Right,
-            ]),
-            with_turns: Some(&[
+        (
+            Call::Queue,
+            &[
                 Part::Place,
                 Part::Picture,
                 Part::Size,
                 Part::Time,
                 Part::Crop,
                 Part::Fence,
-            ]),
-        },
+            ],
+        ),
     ),
-    (
-        "queue-allowed",
-        Form {
-            call: Call::QueueAllowed,
-            with_numbers: Some(&[
-                Part::Actor,
-                Part::Slot,
-                Part::Number,
-                Part::Picture,
-                Part::Size,
-                Part::Time,
-                Part::Crop,
-                Part::Fence,
-                Part::Right,
-            ]),
-            with_turns: None,
-        },
-    ),
-    (
-        "cancel",
-        Form {
-            call: Call::Cancel,
-            with_numbers: Some(&[
-                Part::Actor,
-                Part::Slot,
-                Part::Number,
-                Part::Fence,
-                Part::Right,
-            ]),
-            with_turns: Some(&[Part::Place, Part::Fence]),
-        },
-    ),
-    (
-        "cancel-allowed",
-        Form {
-            call: Call::CancelAllowed,
-            with_numbers: Some(&[
-                Part::Actor,
-                Part::Slot,
-                Part::Number,
-                Part::Fence,
-                Part::Right,
-            ]),
-            with_turns: None,
-        },
-    ),
-    (
-        "detach",
-        Form {
-            call: Call::Detach,
-            with_numbers: Some(&[Part::Actor, Part::Slot, Part::Number]),
-            with_turns: Some(&[Part::Place]),
-        },
-    ),
-    (
-        "detach-allowed",
-        Form {
-            call: Call::DetachAllowed,
-            with_numbers: Some(&[Part::Actor, Part::Slot, Part::Number]),
-            with_turns: None,
-        },
-    ),
-    (
-        "attach",
-        Form {
-            call: Call::Attach,
-            with_numbers: Some(&[Part::Actor, Part::Size]),
-            with_turns: Some(&[Part::Place]),
-        },
-    ),
-    (
-        "maxacquired",
-        Form {
-            call: Call::MaxAcquired,
-            with_numbers: Some(&[Part::Count]),
-            with_turns: Some(&[Part::Count]),
-        },
-    ),
-    (
-        "abandon",
-        Form {
-            call: Call::Abandon,
-            with_numbers: Some(&[]),
-            with_turns: Some(&[]),
-        },
-    ),
-    (
-        "acquire",
-        Form {
-            call: Call::Acquire,
-            with_numbers: Some(&[Part::Number]),
-            with_turns: Some(&[Part::Place, Part::Number]),
-        },
-    ),
-    (
-        "release",
-        Form {
-            call: Call::Release,
-            with_numbers: Some(&[Part::Slot, Part::Number, Part::Fence, Part::Right]),
-            with_turns: Some(&[Part::Place, Part::Fence]),
-        },
-    ),
-    (
-        "detachread",
-        Form {
-            call: Call::DetachRead,
-            with_numbers: Some(&[Part::Slot, Part::Number]),
-            with_turns: Some(&[Part::Place]),
-        },
-    ),
-    (
-        "attachread",
-        Form {
-            call: Call::AttachRead,
-            with_numbers: Some(&[Part::Size]),
-            with_turns: Some(&[Part::Place]),
-        },
-    ),
+    ("cancel", (Call::Cancel, &[Part::Place, Part::Fence])),
+    ("detach", (Call::Detach, &[Part::Place])),
+    ("attach", (Call::Attach, &[Part::Place])),
+    ("maxacquired", (Call::MaxAcquired, &[Part::Count])),
+    ("abandon", (Call::Abandon, &[])),
+    ("acquire", (Call::Acquire, &[Part::Place, Part::Number])),
+    ("release", (Call::Release, &[Part::Place, Part::Fence])),
+    ("detachread", (Call::DetachRead, &[Part::Place])),
+    ("attachread", (Call::AttachRead, &[Part::Place])),
     (
         "draw",
-        Form {
-            call: Call::Draw,
-            with_numbers: None,
-            with_turns: Some(&[Part::Place, Part::Picture, Part::Size]),
-        },
+        (Call::Draw, &[Part::Place, Part::Picture, Part::Size]),
     ),
-    (
-        "read",
-        Form {
-            call: Call::Read,
-            with_numbers: None,
-            with_turns: Some(&[Part::Place]),
-        },
-    ),
-    (
-        "see",
-        Form {
-            call: Call::See,
-            with_numbers: None,
-            with_turns: Some(&[Part::Count, Part::Number]),
-        },
-    ),
-    (
-        "show",
-        Form {
-            call: Call::Show,
-            with_numbers: None,
-            with_turns: Some(&[Part::Place]),
-        },
-    ),
-    (
-        "lend",
-        Form {
-            call: Call::Lend,
-            with_numbers: None,
-            with_turns: Some(&[]),
-        },
-    ),
-    (
-        "give",
-        Form {
-            call: Call::Give,
-            with_numbers: None,
-            with_turns: Some(&[]),
-        },
-    ),
-    (
-        "state",
-        Form {
-            call: Call::State,
-            with_numbers: Some(&[]),
-            with_turns: None,
-        },
-    ),
+    ("read", (Call::Read, &[Part::Place])),
+    ("see", (Call::See, &[Part::Count, Part::Number])),
+    ("show", (Call::Show, &[Part::Place])),
+    ("lend", (Call::Lend, &[])),
+    ("give", (Call::Give, &[])),
 ];
 
 /// The next word, as the place of a letter: `a` to `h`.
@@ -419,13 +261,12 @@ pub fn read(
     rights: Rights,
     words: &mut SplitWhitespace<'_>,
 ) -> Option<(Call, Said)> {
-    let form = named(FORMS, words.next()?)?;
-    let parts = match rights {
-        Rights::Numbers => form.with_numbers,
-        Rights::Turns => form.with_turns,
+    let forms = match rights {
+        Rights::Numbers => WITH_NUMBERS,
+        Rights::Turns => WITH_TURNS,
     };
-    let said = said_of(alloc, parts?, words)?;
-    Some((form.call, said))
+    let (call, parts) = named(forms, words.next()?)?;
+    Some((call, said_of(alloc, parts, words)?))
 }
 
 /// What these words say of a call, part by part.

@@ -4,36 +4,26 @@ use std::fmt;
 
 #[derive(Clone, Copy)]
 pub enum Answer {
-    NoCall,
-    NoMemory,
-    NoSeat,
-    Split,
-    Joined,
-    /// The timeline is not 1 to 64.
-    NoTimeline,
-    Signalled,
+    /// What has no number.
+    Plain(&'static str),
     Value(u64),
     Risen(Seen),
-    NoBuffer,
     Opened(u32),
-    NoToken,
-    Ready(bool),
+    /// Whether something holds.
+    Is(bool),
     Found(u64),
-    TooEarly,
-    HasEntered,
-    NotEntered,
-    IsOwed,
-    GaveUp,
-    Dropped,
     /// The turn is owed, with what it will leave, and the next one has this number and expects this.
     Issued(u64, u64, u64, u64),
     /// What was found in the buffer, and what was left there.
     Left(u64, u64),
     /// What was left in the buffer, and the number of the turn that expects it.
     LeftTo(u64, u64),
-    Total(u64),
     /// It is not time for the call, and the number comes back.
     NotYet(u64),
+    /// The least and the greatest of several counts.
+    Between(usize, usize),
+    /// How often something was missed, and what was seen in the end.
+    Missed(usize, usize),
 }
 
 /// The timelines that have risen, each with its value.
@@ -51,26 +41,12 @@ fn show_risen<W: fmt::Write>(f: &mut fmt::Formatter<W>, seen: &Seen) -> fmt::Res
 impl fmt::Display for Answer {
     fn fmt<W: fmt::Write>(&self, f: &mut fmt::Formatter<W>) -> fmt::Result {
         match self {
-            Answer::NoCall => write!(f, "no call"),
-            Answer::NoMemory => write!(f, "out of memory"),
-            Answer::NoSeat => write!(f, "no seat"),
-            Answer::Split => write!(f, "split"),
-            Answer::Joined => write!(f, "joined"),
-            Answer::NoTimeline => write!(f, "no timeline"),
-            Answer::Signalled => write!(f, "signalled"),
+            Answer::Plain(text) => write!(f, "{text}"),
             Answer::Value(value) => write!(f, "{value}"),
             Answer::Risen(seen) => show_risen(f, seen),
-            Answer::NoBuffer => write!(f, "no buffer is left"),
             Answer::Opened(buffer) => write!(f, "buffer {buffer}"),
-            Answer::NoToken => write!(f, "no token"),
-            Answer::Ready(ready) => write!(f, "{ready}"),
+            Answer::Is(holds) => write!(f, "{holds}"),
             Answer::Found(stamp) => write!(f, "found {stamp}"),
-            Answer::TooEarly => write!(f, "too early"),
-            Answer::HasEntered => write!(f, "has entered"),
-            Answer::NotEntered => write!(f, "not entered"),
-            Answer::IsOwed => write!(f, "is owed"),
-            Answer::GaveUp => write!(f, "gave up"),
-            Answer::Dropped => write!(f, "dropped"),
             Answer::Issued(number, leaves, heir, expects) => {
                 write!(
                     f,
@@ -79,8 +55,9 @@ impl fmt::Display for Answer {
             }
             Answer::Left(found, left) => write!(f, "found {found}, left {left}"),
             Answer::LeftTo(left, heir) => write!(f, "left {left}, turn {heir} expects it"),
-            Answer::Total(total) => write!(f, "{total}"),
             Answer::NotYet(number) => write!(f, "not yet, {number} comes back"),
+            Answer::Between(least, greatest) => write!(f, "{least} to {greatest}"),
+            Answer::Missed(missed, seen) => write!(f, "{missed} missed, {seen} seen"),
         }
     }
 }

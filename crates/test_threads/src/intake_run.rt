@@ -103,9 +103,10 @@ fn send_all<R: Threads + Wait + Sync>(
             ensures { IfSome result (λ back. (back.intake ≡ intake.entry.now) × (back.by ≡ first.by)) }
         { send_three(rt, alloc, intake, first) },
         move ||
-            requires { ((second.intake ≡ intake.now) × (second.sent ≡ [])) × ((third.intake ≡ intake.now) × (third.sent ≡ [])) }
-            ensures { IfSome result.0 (λ back. (back.intake ≡ intake.entry.now) × (back.by ≡ second.by))
-                × IfSome result.1 (λ back. (back.intake ≡ intake.entry.now) × (back.by ≡ third.by)) }
+            requires second { (second.intake ≡ intake.now) × (second.sent ≡ []) }
+            requires third { (third.intake ≡ intake.now) × (third.sent ≡ []) }
+            ensures second { IfSome result.0 (λ back. (back.intake ≡ intake.entry.now) × (back.by ≡ second.by)) }
+            ensures third { IfSome result.1 (λ back. (back.intake ≡ intake.entry.now) × (back.by ≡ third.by)) }
         { send_both(rt, alloc, intake, second, third) },
     );
     let mut senders = Vec::new(alloc);

@@ -37,9 +37,9 @@ pub fn add<W: Wait>(
     ensures { pass.new ≡ record pass.old { seen = pass.new.seen; turns = pass.new.turns } }
 {
     match pass.call(lock, rt, number) {
-        Ok(total) => Answer::Total(total),
+        Ok(total) => Answer::Value(total),
         Err(CallFault::NotYet(back)) => Answer::NotYet(back),
-        Err(CallFault::NoMemory(_)) => Answer::NoMemory,
+        Err(CallFault::NoMemory(_)) => Answer::Plain("out of memory"),
     }
 }
 
@@ -109,7 +109,7 @@ pub fn play<R: Print + Wait>(rt: &R, alloc: Global, calls: &[String]) -> io::Res
     for line in calls {
         let answer = match call_of(line) {
             Some(call) => run.call(rt, call),
-            None => Answer::NoCall,
+            None => Answer::Plain("no call"),
         };
         println!(rt; "{line}: {answer}")?;
     }

@@ -17,6 +17,7 @@ mod thread_run;
 mod time_run;
 mod token;
 mod turn_run;
+mod watch_call;
 mod watch_run;
 mod words;
 mod write_run;

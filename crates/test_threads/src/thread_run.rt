@@ -4,7 +4,7 @@ ghost use Rattle.std.specs.Prelude.{◌≡◌, Some, IfOk};
 
 use crate::counter::Counter;
 use crate::lock_run::Run;
-use crate::words::{number, words};
+use crate::words::{number_or_0, words};
 use crate::{crowd_run, intake_run, signals_run, write_run};
 use sf_base::NoMemory;
 use sf_calls::{CallFault, CallLock, Pass};
@@ -101,13 +101,13 @@ pub fn play<R: Print + Threads + Wait + Sync>(
 ) -> io::Result<()> {
     for line in lines {
         let [word, first, second, _] = words(line);
-        let times = number(first).unwrap_or(0);
+        let times = number_or_0(first);
         let count = match word {
             "signals" => signals_run::play(rt, alloc, times),
             "writes" => write_run::play(rt, alloc, times),
             "sends" => intake_run::play(rt, alloc, times),
             "adds" => add_rounds(rt, alloc, times),
-            "add-ones" => crowd_run::play(rt, alloc, times, number(second).unwrap_or(0)),
+            "add-ones" => crowd_run::play(rt, alloc, times, number_or_0(second)),
             _ => 0,
         };
         println!(rt; "{line}: {count}")?;

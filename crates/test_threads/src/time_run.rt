@@ -59,14 +59,14 @@ fn apply(times: &Timelines, seat: &mut TimeSeat, act: Act) -> Answer
     match act {
         Act::Signal(number, value) => {
             let Some(id) = timeline(number) else {
-                return Answer::NoTimeline;
+                return Answer::Plain("no timeline");
             };
             seat.signal(times, id, value);
-            Answer::Signalled
+            Answer::Plain("signalled")
         }
         Act::See(number) => {
             let Some(id) = timeline(number) else {
-                return Answer::NoTimeline;
+                return Answer::Plain("no timeline");
             };
             Answer::Value(seat.seen(times, id))
         }
@@ -87,16 +87,16 @@ struct Run {
 impl Run {
     fn split(&mut self) -> Answer {
         self.second = Some(self.first.split(&self.times));
-        Answer::Split
+        Answer::Plain("split")
     }
 
     fn join(&mut self) -> Answer {
         match self.second.take() {
             Some(second) => {
                 self.first.join(&self.times, second);
-                Answer::Joined
+                Answer::Plain("joined")
             }
-            None => Answer::NoSeat,
+            None => Answer::Plain("no seat"),
         }
     }
 
@@ -107,7 +107,7 @@ impl Run {
                 self.second = Some(second);
                 answer
             }
-            None => Answer::NoSeat,
+            None => Answer::Plain("no seat"),
         }
     }
 
@@ -135,7 +135,7 @@ pub fn play(rt: &impl Print, alloc: Global, calls: &[String]) -> io::Result<()> 
     for line in calls {
         let answer = match call_of(line) {
             Some(call) => run.call(call),
-            None => Answer::NoCall,
+            None => Answer::Plain("no call"),
         };
         println!(rt; "{line}: {answer}")?;
     }

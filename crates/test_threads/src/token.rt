@@ -92,7 +92,7 @@ fn issue<B: TableName>(turn: Turn<Counted>, stamp: u64) -> After<B>
                 answer,
             }
         }
-        Err((_, turn, _)) => After::kept(Token::Turn(turn), Answer::NoMemory),
+        Err((_, turn, _)) => After::kept(Token::Turn(turn), Answer::Plain("out of memory")),
     }
 }
 
@@ -107,7 +107,7 @@ fn on_turn<B: TableName>(seat: &mut TurnSeat<Counted>, turn: Turn<Counted>, act:
         Act::Ready => {
             let mut turn = turn;
             let ready = turn.ready(seat);
-            After::kept(Token::Turn(turn), Answer::Ready(ready))
+            After::kept(Token::Turn(turn), Answer::Is(ready))
         }
         Act::Enter => match turn.enter(seat) {
             Ok((inside, pixels)) => {
@@ -117,11 +117,11 @@ fn on_turn<B: TableName>(seat: &mut TurnSeat<Counted>, turn: Turn<Counted>, act:
                     Answer::Found(found),
                 )
             }
-            Err(turn) => After::kept(Token::Turn(turn), Answer::TooEarly),
+            Err(turn) => After::kept(Token::Turn(turn), Answer::Plain("too early")),
         },
         Act::Issue(stamp) => issue(turn, stamp),
-        Act::GiveUp => After::kept(Token::Turn(turn), Answer::NotEntered),
-        Act::Drop => After::gone(Answer::Dropped),
+        Act::GiveUp => After::kept(Token::Turn(turn), Answer::Plain("not entered")),
+        Act::Drop => After::gone(Answer::Plain("dropped")),
     }
 }
 
@@ -150,7 +150,10 @@ fn issue_and_leave<B: TableName>(
             }
         }
         Err((_, inside, _)) => {
-            After::kept(Token::Entered(Entered { inside, pixels }), Answer::NoMemory)
+            After::kept(
+                Token::Entered(Entered { inside, pixels }),
+                Answer::Plain("out of memory"),
+            )
         }
     }
 }
@@ -166,11 +169,14 @@ fn on_entered<B: TableName>(seat: &mut TurnSeat<Counted>, entered: Entered, act:
         Act::Issue(stamp) => issue_and_leave(seat, entered, stamp),
         Act::GiveUp => {
             let Entered { inside, pixels } = entered;
-            After::kept(Token::Turn(inside.give_up(pixels)), Answer::GaveUp)
+            After::kept(
+                Token::Turn(inside.give_up(pixels)),
+                Answer::Plain("gave up"),
+            )
         }
-        Act::Drop => After::gone(Answer::Dropped),
-        Act::Ready => After::kept(Token::Entered(entered), Answer::HasEntered),
-        Act::Enter => After::kept(Token::Entered(entered), Answer::HasEntered),
+        Act::Drop => After::gone(Answer::Plain("dropped")),
+        Act::Ready => After::kept(Token::Entered(entered), Answer::Plain("has entered")),
+        Act::Enter => After::kept(Token::Entered(entered), Answer::Plain("has entered")),
     }
 }
 
@@ -189,7 +195,7 @@ fn pay<B: TableName>(seat: &mut TurnSeat<Counted>, owed: Owed<Counted>) -> After
             busy.leave(seat, pixels);
             After::gone(Answer::Left(found, left))
         }
-        Err(owed) => After::kept(Token::Owed(owed), Answer::TooEarly),
+        Err(owed) => After::kept(Token::Owed(owed), Answer::Plain("too early")),
     }
 }
 
@@ -205,8 +211,8 @@ pub fn apply<B: TableName>(seat: &mut TurnSeat<Counted>, held: Held<B>, act: Act
         Token::Entered(entered) => on_entered(seat, entered, act),
         Token::Owed(owed) => match act {
             Act::Enter => pay(seat, owed),
-            Act::Drop => After::gone(Answer::Dropped),
-            _ => After::kept(Token::Owed(owed), Answer::IsOwed),
+            Act::Drop => After::gone(Answer::Plain("dropped")),
+            _ => After::kept(Token::Owed(owed), Answer::Plain("is owed")),
         },
     }
 }

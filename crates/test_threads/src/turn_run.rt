@@ -82,7 +82,7 @@ impl<B: TableName> Tokens<B> {
         ensures first { seat.new.is_first ≡ seat.old.is_first }
     {
         let Some(held) = self.take(number) else {
-            return Answer::NoToken;
+            return Answer::Plain("no token");
         };
         let After {
             kept,
@@ -91,7 +91,7 @@ impl<B: TableName> Tokens<B> {
         } = apply(seat, held, act);
         self.put(number, kept);
         if issued.is_some() && self.places.push(issued).is_err() {
-            return Answer::NoMemory;
+            return Answer::Plain("out of memory");
         }
         answer
     }
@@ -117,22 +117,22 @@ impl<B: TableName> Run<B> {
     /// A new buffer, from the stock.
     fn open(&mut self, stamp: u64) -> Answer {
         if self.left == 0 {
-            return Answer::NoBuffer;
+            return Answer::Plain("no buffer is left");
         }
         let Ok(drops) = Arc::try_clone(&self.drops) else {
-            return Answer::NoMemory;
+            return Answer::Plain("out of memory");
         };
         let Ok(permit) = self.stock.one() else {
-            return Answer::NoMemory;
+            return Answer::Plain("out of memory");
         };
         self.left -= 1;
         let buffer = permit.buffer();
         let Ok(turn) = permit.open(Counted { stamp, drops }) else {
-            return Answer::NoMemory;
+            return Answer::Plain("out of memory");
         };
         let token = Some(Held::of(Token::Turn(turn)));
         if self.tokens.places.push(token).is_err() {
-            return Answer::NoMemory;
+            return Answer::Plain("out of memory");
         }
         Answer::Opened(buffer)
     }
@@ -141,9 +141,9 @@ impl<B: TableName> Run<B> {
         match self.first.split() {
             Ok(second) => {
                 self.second = Some(second);
-                Answer::Split
+                Answer::Plain("split")
             }
-            Err(_) => Answer::NoMemory,
+            Err(_) => Answer::Plain("out of memory"),
         }
     }
 
@@ -151,9 +151,9 @@ impl<B: TableName> Run<B> {
         match self.second.take() {
             Some(second) => {
                 self.first.join(second);
-                Answer::Joined
+                Answer::Plain("joined")
             }
-            None => Answer::NoSeat,
+            None => Answer::Plain("no seat"),
         }
     }
 
@@ -164,7 +164,7 @@ impl<B: TableName> Run<B> {
                 self.second = Some(second);
                 answer
             }
-            None => Answer::NoSeat,
+            None => Answer::Plain("no seat"),
         }
     }
 
@@ -208,7 +208,7 @@ fn play_at<B: TableName>(
     for line in calls {
         let answer = match call_of(line) {
             Some(call) => run.call(call),
-            None => Answer::NoCall,
+            None => Answer::Plain("no call"),
         };
         println!(rt; "{line}: {answer}")?;
     }

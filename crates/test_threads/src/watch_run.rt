@@ -1,10 +1,13 @@
 //! Calls on a watch by one thread, and threads that wait for each other's news and sleep meanwhile.
-use crate::words::{number, words};
+use crate::answer::Answer;
+use crate::watch_call::{AWAITED, Ask, At, Awaits, CALLS, Call, Tell};
+use crate::words::{number_or_0, words};
 use sf_live_watch::{Awaited, Effect, MOST_WATCHED, Slots, Watch};
 use std::sync::Wait;
 use std::sync::atomic::{AtomicUsize, Ordering};
 use std::thread::Threads;
 use std::{io, thread};
+use test_words::named;
 
 /// Nothing that a thread waits for, but something to look at.
 const NOTHING: Effect = Effect {
@@ -261,20 +264,9 @@ fn counts_to<R: Threads + Wait + Sync>(
     (least, greatest)
 }
 
-/// What a word says that a thread waits for.
-fn awaited(word: &str) -> Option<Awaited> {
-    match word {
-        "slot" => Some(Awaited::Slot(1)),
-        "slot-2" => Some(Awaited::Slot(2)),
-        "point" => Some(Awaited::Point),
-        "turn" => Some(Awaited::Turn),
-        _ => None,
-    }
-}
-
 /// What brings only what a word says, if it says anything.
 fn effect(word: &str) -> Effect {
-    match (awaited(word), word) {
+    match (named(AWAITED, word), word) {
         (Some(awaited), _) => bringing(awaited),
         (None, "slots") => Effect {
             slots: Slots::OfAny,
@@ -285,79 +277,88 @@ fn effect(word: &str) -> Effect {
     }
 }
 
-/// Makes the call of a line, and writes what it answered. A wait is for a look at the last news for the
-/// starter.
-fn answer<R: Print + Threads + Wait + Sync>(
-    rt: &R,
-    watch: &Watch,
-    told: &mut u64,
-    line: &str,
-) -> io::Result<()> {
-    let [word, first, second, third] = words(line);
-    let value = number(first).unwrap_or(0);
-    let place = value as usize;
-    match word {
-        "turn-away" if place < MOST_WATCHED => {
+/// Makes a call that answers nothing.
+fn tell<R: Wait>(rt: &R, watch: &Watch, call: Tell) -> Answer {
+    match call {
+        Tell::LookOn => watch.look_on(),
+        Tell::Looked => watch.tell_looked(),
+        Tell::Again => watch.look_again(),
+        Tell::Ended => watch.tell_ended(rt),
+        Tell::Stop => watch.stop(),
+    }
+    Answer::Plain("told")
+}
+
+/// Asks the watch, or a new one with threads of its own.
+fn ask<R: Threads + Wait + Sync>(rt: &R, watch: &Watch, told: u64, question: Ask) -> bool {
+    match question {
+        Ask::Next => watch.next(rt),
+        Ask::IsStopped => watch.is_stopped(),
+        Ask::Wait => watch.wait_for_look(rt, told),
+        Ask::Unseen => goes_on_unseen(rt),
+    }
+}
+
+/// Makes a call on a place.
+fn call_at<R: Wait>(rt: &R, watch: &Watch, call: At, place: usize) -> Answer {
+    if place >= MOST_WATCHED {
+        return Answer::Plain("no call");
+    }
+    match call {
+        At::TurnAway => {
             watch.turn_away(rt, place);
-            println!(rt; "{line}: turned away")
+            Answer::Plain("turned away")
         }
-        "is-turned-away" if place < MOST_WATCHED => {
-            println!(rt; "{line}: {}", watch.is_turned_away(rt, place))
+        At::IsTurnedAway => Answer::Is(watch.is_turned_away(rt, place)),
+    }
+}
+
+/// Something is done that has this effect. News for the starter are kept.
+fn tell_done<R: Wait>(rt: &R, watch: &Watch, told: &mut u64, effect: Effect) -> Answer {
+    let news = watch.tell_done(rt, effect);
+    if let (Some(news), true) = (news, effect.looks) {
+        *told = news;
+    }
+    Answer::Is(news.is_some())
+}
+
+/// Runs threads that wait for what the first word says.
+fn run_awaiting<R: Threads + Wait + Sync>(rt: &R, run: Awaits, words: [&str; 3]) -> Answer {
+    let [first, second, third] = words;
+    let Some(awaited) = named(AWAITED, first) else {
+        return Answer::Plain("no call");
+    };
+    match run {
+        Awaits::Late => Answer::Is(goes_on_late(rt, awaited)),
+        Awaits::Wakes => {
+            let wakes = wakes_of(rt, awaited, effect(second), number_or_0(third));
+            Answer::Value(wakes as u64)
         }
-        "next" => println!(rt; "{line}: {}", watch.next(rt)),
-        "look-on" => {
-            watch.look_on();
-            println!(rt; "{line}: told")
+    }
+}
+
+/// Makes the call of a line.
+fn answer<R: Threads + Wait + Sync>(rt: &R, watch: &Watch, told: &mut u64, line: &str) -> Answer {
+    let [word, first, second, third] = words(line);
+    let Some(call) = named(CALLS, word) else {
+        return Answer::Plain("no call");
+    };
+    let place = number_or_0(first) as usize;
+    match call {
+        Call::Tell(call) => tell(rt, watch, call),
+        Call::Ask(question) => Answer::Is(ask(rt, watch, *told, question)),
+        Call::At(call) => call_at(rt, watch, call, place),
+        Call::Done => tell_done(rt, watch, told, effect(first)),
+        Call::Awaits(run) => run_awaiting(rt, run, [first, second, third]),
+        Call::Count => {
+            let start = number_or_0(second) as usize;
+            let (least, greatest) = counts_to(rt, place, start, number_or_0(third));
+            Answer::Between(least, greatest)
         }
-        "looked" => {
-            watch.tell_looked();
-            println!(rt; "{line}: told")
-        }
-        "again" => {
-            watch.look_again();
-            println!(rt; "{line}: told")
-        }
-        "done" => {
-            let news = watch.tell_done(rt, effect(first));
-            if let (Some(news), true) = (news, effect(first).looks) {
-                *told = news;
-            }
-            println!(rt; "{line}: {}", news.is_some())
-        }
-        "ended" => {
-            watch.tell_ended(rt);
-            println!(rt; "{line}: told")
-        }
-        "is-stopped" => println!(rt; "{line}: {}", watch.is_stopped()),
-        "wait" => println!(rt; "{line}: {}", watch.wait_for_look(rt, *told)),
-        "late" => match awaited(first) {
-            Some(awaited) => println!(rt; "{line}: {}", goes_on_late(rt, awaited)),
-            None => println!(rt; "{line}: no call"),
-        },
-        "unseen" => println!(rt; "{line}: {}", goes_on_unseen(rt)),
-        "stop" => {
-            watch.stop();
-            println!(rt; "{line}: told")
-        }
-        "count" => {
-            let start = number(second).unwrap_or(0) as usize;
-            let rounds = number(third).unwrap_or(0);
-            let (least, greatest) = counts_to(rt, place, start, rounds);
-            println!(rt; "{line}: {least} to {greatest}")
-        }
-        "wakes" => match awaited(first) {
-            Some(awaited) => {
-                let often = number(third).unwrap_or(0);
-                let wakes = wakes_of(rt, awaited, effect(second), often);
-                println!(rt; "{line}: {wakes}")
-            }
-            None => println!(rt; "{line}: no call"),
-        },
-        "look" => {
+        Call::Look => {
             let (missed, seen) = missed_of(rt, place);
-            println!(rt; "{line}: {missed} missed, {seen} seen")
+            Answer::Missed(missed, seen)
         }
-        _ => println!(rt; "{line}: no call"),
     }
 }
 
@@ -365,7 +366,8 @@ pub fn play<R: Print + Threads + Wait + Sync>(rt: &R, calls: &[String]) -> io::R
     let watch = Watch::new(2);
     let mut told = 1;
     for line in calls {
-        answer(rt, &watch, &mut told, line)?;
+        let answer = answer(rt, &watch, &mut told, line);
+        println!(rt; "{line}: {answer}")?;
     }
     Ok(())
 }

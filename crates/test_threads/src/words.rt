@@ -14,3 +14,8 @@ pub fn words(line: &str) -> [&str; 4] {
 pub fn number(word: &str) -> Option<u64> {
     word.parse().ok()
 }
+
+/// The number that a word is, or 0.
+pub fn number_or_0(word: &str) -> u64 {
+    number(word).unwrap_or(0)
+}
