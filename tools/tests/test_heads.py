@@ -20,9 +20,6 @@ PLAIN = {
     r"what is due": "the outputs due",
 }
 
-# Comments that wait for the next change of their crates: a comment is part of a library, so all above is proved anew. No other joins them.
-WAITING = {"crates/sf_commit/specs/inner/Holding.antt", "crates/sf_play/specs/VsyncOver.antt"}
-
 
 def modules(*parts):
     return sorted(glob.glob(os.path.join(TOP, "crates", "*", *parts), recursive=True))
@@ -58,8 +55,6 @@ class Heads(unittest.TestCase):
 
     def test_comments_have_plain_words(self):
         for path in modules("src", "**", "*.rt") + modules("specs", "**", "*.antt"):
-            if os.path.relpath(path, TOP) in WAITING:
-                continue
             text = comments(path)
             for worse, better in PLAIN.items():
                 found = re.search(rf"\b(?:{worse})\b", text, re.I)

@@ -1,5 +1,5 @@
-"""How the code of the crates reads, in numbers: the parameters of functions, the lengths of clauses, what contracts repeat, and how
-many frames stand on the stack where pixels are blended.
+"""How the code of the crates reads, in numbers: the parameters of functions, the lengths of clauses, what contracts repeat, how many
+frames stand on the stack where pixels are blended, and how many layers a call of an actor in a thread goes through.
 
 A clause is what stands in the braces behind `requires` or `ensures`, each run of blanks as one.
 """
@@ -33,6 +33,16 @@ sf_play_write: show_play write_play write_action show_vsync compose_views
 sf_output_screen: show compose_over
 sf_compose: compose_by compose_band compose_rect compose_slice paint_shown paint_layer paint_crop paint_pixels
 sf_rows: blend_row blend_row_blocks row_blocks four_pixels
+"""
+
+# The layers from an actor in a thread to its queue, each of which calls the next: the desk, the caller's seats, its pass at the queue's
+# lock, the stamps of calls, the queue. In front of them is what makes the call for the actor. A name may have its file in front of it.
+LAYERS = """
+sf_actor_steps: ask
+sf_live_seats: shared.call seats.call
+sf_calls: pass.call
+sf_calls_stamped: stamped.apply
+sf_surface: object.apply
 """
 
 
@@ -142,22 +152,24 @@ def measured(texts):
         [clause for clause in clauses if OF_WORKERS.search(clause.text)])
 
 
-def frames_of(walk=FRAMES):
+def frames_of(walk):
     """The frames of a walk in order, each with its crate."""
     return [(crate, name) for line in walk.split("\n") if line for crate, _, names in [line.partition(": ")] for name in names.split()]
 
 
-def missing_calls(texts, walk=FRAMES):
+def missing_calls(texts, walk):
     """The steps of a walk that the sources do not have."""
     calls = {}
     for path, source in texts:
+        crate, file = path.split(os.sep)[0], os.path.basename(path).partition(".")[0]
         for function in functions_in(path, source):
-            calls.setdefault((path.split(os.sep)[0], function.name), set()).update(function.calls)
+            for name in (function.name, f"{file}.{function.name}"):
+                calls.setdefault((crate, name), set()).update(function.calls)
     frames = frames_of(walk)
     return [
         f"{name} of {crate} calls no {after}"
         for (crate, name), (_, after) in zip(frames, frames[1:])
-        if after.rpartition("|")[2] not in calls.get((crate, name.partition("|")[0]), ())]
+        if re.split(r"[|.]", after)[-1] not in calls.get((crate, name.partition("|")[0]), ())]
 
 
 def counts(texts):
@@ -169,7 +181,8 @@ def counts(texts):
         f"clauses of more than {LONG} letters": len(found.long),
         f"clauses of more than {LONGEST} letters": sum(len(clause.text) > LONGEST for clause in found.long),
         "clauses that say `1 ≤ workers`": len(found.of_workers),
-        "frames from main to the kernel that blends": len(frames_of()),
+        "frames from main to the kernel that blends": len(frames_of(FRAMES)),
+        "layers from an actor in a thread to its queue": len(frames_of(LAYERS)) - 1,
     }
 
 
