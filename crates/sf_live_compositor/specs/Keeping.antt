@@ -2,6 +2,7 @@
 use Rattle.std.specs.Prelude.{◌≡◌, ℕ, ◌≤◌, List, Option, Some, None, Result, OnErr, OnOk}
 use Rattle.atomic_table.specs.Seated.{TableId}
 use Rattle.sf_live_threads.specs.sf_io.Causes.{Rose}
+use Rattle.sf_play_write.specs.sf_record.declared.encode.RunFault.{RunFault}
 use Rattle.sf_play_write.specs.sf_record.declared.encode.RunFault.TheVariants.{WriteFault}
 use Rattle.sf_live_threads.specs.sf_surface.Tokens.{Issued, ReadLeaseOf}
 use Rattle.sf_live_threads.specs.sf_turns.Views.{SeatView}
@@ -11,6 +12,7 @@ use Rattle.sf_live_threads.specs.sf_live_seats.declared.first.FirstSeats.{FirstS
 use Rattle.sf_live_threads.specs.sf_live_seats.declared.locks.Locks.{Locks}
 use Rattle.sf_live_threads.specs.sf_live_seats.declared.seats.Seats.{Seats}
 use Rattle.sf_play_write.specs.sf_play_report.declared.report.VsyncReport.{VsyncReport}
+use Rattle.sf_play_write.specs.Writing.{WritingEnded}
 use Rattle.sf_live_compositor.specs.Sitting.{CutVsyncs, CutsDue, KeepsLog, TellsDue, WritesDue}
 use Rattle.sf_live_compositor.specs.Vsyncs.{Sitting}
 use Rattle.sf_live_compositor.specs.declared.compositor.Compositor.{Compositor}
@@ -46,6 +48,10 @@ module _ {K B : Type 0} {naming : Naming B} where
     CutsIn due old new = CutsDue old.shows.plan old.shows.timelines.items (taken old.sink.now) (taken new.sink.now) old.decider.handler due
 
   module _ (taken : K → Option (List ℕ)) (faults : K → ℕ) where
+    -- how the showing of what was due ended, whichever pixels its images have: it is written, or a prefix of it
+    abbrev pub ShowingEnded : {A : Type 0} → Option VsyncReport → Compositor K B naming → Compositor K B naming → Result A RunFault → Type 0
+    ShowingEnded due old new result = WritingEnded result (faults old.sink.now) (faults new.sink.now) (λ _. TellsIn taken due old new) (CutsIn taken due old new)
+
     -- From visit to visit: the log of its vsyncs, with what was written of it; and the count of the sink's faults has not fallen.
     pub record Keeps (lease : Ghosts ReadLeaseOf SeatView ReadLeaseOf Issued) (table : TableId) (start c : Compositor K B naming) (locks : Locks B)
         (first : FirstSeats B) : Type 0 where

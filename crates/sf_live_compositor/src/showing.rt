@@ -1,11 +1,10 @@
 //! The next vsync, and what the last one shows: where its records are due, its images are composed
 //! beside the next vsync, and then its records are written.
-ghost use Rattle.std.specs.Prelude.{◌≡◌, ◌≤◌, IfSome, IsErrOf, OnErr, OnOk, Some};
-ghost use Rattle.sf_live_threads.specs.sf_io.Causes.{Rose};
+ghost use Rattle.std.specs.Prelude.{◌≡◌, IfSome, IsErrOf, OnOk, Some};
 ghost use Rattle.sf_play_write.specs.sf_play.Playing.{expected_by};
 ghost use Rattle.sf_play_write.specs.sf_play_report.Stages.{IsStage};
 ghost use Rattle.sf_play_write.specs.Vsyncs.{KeepsShown};
-ghost use Rattle.sf_live_compositor.specs.Keeping.{CutsIn, IsSame, TellsIn, WritesIn, sitting_in};
+ghost use Rattle.sf_live_compositor.specs.Keeping.{IsSame, ShowingEnded, WritesIn, sitting_in};
 ghost use Rattle.sf_live_compositor.specs.Sitting.{MadeOne, MayShowNext, MaySit};
 
 use crate::compositor::Compositor;
@@ -33,10 +32,7 @@ impl<'a, K: Sink, B: TableName> Compositor<'a, K, B> {
         ensures stage { OnOk result (IsStage expected_by self.old.shows.plan self.new.decider.handler) }
         ensures may { OnOk result (MaySit self.old.shows.plan (sitting_in seats.new self.new)) }
         ensures written { OnOk result (WritesIn K.taken (Some last) self.old self.new) }
-        ensures told { OnOk result (TellsIn K.taken (Some last) self.old self.new) }
-        ensures cut { OnErr result (CutsIn K.taken (Some last) self.old self.new) }
-        ensures later { K.faults self.old.sink.now ≤ K.faults self.new.sink.now }
-        ensures failed { IsErrOf result RunFault.WriteFault → Rose (K.faults self.old.sink.now) (K.faults self.new.sink.now) }
+        ensures ended { ShowingEnded K.taken K.faults (Some last) self.old self.new result }
     {
         let views = match vsync_views(self.alloc, &self.shows.plan, &self.decider.handler, &last) {
             Ok(views) => views,
@@ -104,10 +100,7 @@ impl<'a, K: Sink, B: TableName> Compositor<'a, K, B> {
         ensures stage { OnOk result (IsStage expected_by self.old.shows.plan self.new.decider.handler) }
         ensures may { OnOk result (MaySit self.old.shows.plan (sitting_in seats.new self.new)) }
         ensures written { OnOk result (WritesIn K.taken self.old.due self.old self.new) }
-        ensures told { OnOk result (TellsIn K.taken self.old.due self.old self.new) }
-        ensures cut { OnErr result (CutsIn K.taken self.old.due self.old self.new) }
-        ensures later { K.faults self.old.sink.now ≤ K.faults self.new.sink.now }
-        ensures failed { IsErrOf result RunFault.WriteFault → Rose (K.faults self.old.sink.now) (K.faults self.new.sink.now) }
+        ensures ended { ShowingEnded K.taken K.faults self.old.due self.old self.new result }
     {
         match self.due.take() {
             None => self.show_first(rt, locks, seats, look),

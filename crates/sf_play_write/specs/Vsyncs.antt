@@ -24,7 +24,7 @@ use Rattle.sf_output_screen.specs.ScreenLists.{AreShown}
 use Rattle.sf_output_screen.specs.Screens.{IsShown, ScreenOf, image_bytes}
 use Rattle.sf_output_screen.specs.declared.screens.OutputScreen.{OutputScreen}
 use Rattle.sf_play_write.specs.declared.shows.Shows.{Shows}
-use Rattle.sf_play_write.specs.Writing.{Writes, WritesPart}
+use Rattle.sf_play_write.specs.Writing.{Writes, WritesPart, WritingEnded}
 
 -- what the records of a vsync show, which leaves these layers
 abbrev pub told_with : (ℕ → Picture) → Plan → List ℕ → VsyncReport → List Layer → VsyncRecords
@@ -146,3 +146,10 @@ pub record CutsVsync (plan : Plan) (timelines : List ℕ) (layers : List Layer) 
   pub shown : List (Output (List ℕ))
   pub due : AreOutputsDue plan layers report.commits shown
   pub written : WritesPart old new (records_by timelines report shown)
+
+-- how the writing of a vsync that left this handler ended, whatever the pictures are: its records were written, or a prefix of them
+abbrev pub VsyncEnded : {L S A : Type 0} → (S → Option (List ℕ)) → (S → ℕ) → Shows → HandlerOf L → VsyncReport → S → S → Result A RunFault → Type 0
+VsyncEnded taken faults shows handler report old new result =
+    WritingEnded result (faults old) (faults new)
+    (λ _. WritesVsync shows.plan shows.timelines.items handler.tree.layers report (taken old) (taken new))
+    (CutsVsync shows.plan shows.timelines.items handler.tree.layers report (taken old) (taken new))

@@ -2,9 +2,7 @@
 //! the records of the vsync, of its commits and of each image. A play does both at once; a live run
 //! composes between the two.
 ghost use Rattle.std.specs.List.{list_any};
-ghost use Rattle.std.specs.Prelude.{◌≡◌, ◌≤◌, ◌∷◌, [], ℕ, All, IfOk, IsErrOf, None, OnErr, OnOk, is_some, map, true};
-ghost use Rattle.sf_play.specs.sf_commit.Handlers.{HandlerOf};
-ghost use Rattle.sf_io.specs.Causes.{Rose};
+ghost use Rattle.std.specs.Prelude.{◌≡◌, ◌≤◌, ◌∷◌, [], ℕ, All, IfOk, None, OnOk, is_some, map, true};
 ghost use Rattle.sf_output.specs.Outputs.{OfImage};
 ghost use Rattle.sf_output_screen.specs.sf_picture.declared.picture.Picture.{Picture};
 ghost use Rattle.sf_play.specs.sf_record.Events.{image_record};
@@ -17,10 +15,9 @@ ghost use Rattle.sf_output_screen.specs.Screens.{IsShown};
 ghost use Rattle.sf_play_write.specs.Vsyncs.{
   AreViewsDue,
   CutsPictured,
-  CutsVsync,
   HasView,
+  VsyncEnded,
   WritesPictured,
-  WritesVsync,
   pixels_in,
   records_by,
   shown_record,
@@ -245,10 +242,7 @@ where
         (K.taken sink.old) (K.taken sink.new) screens.old result }
 
     // Whatever the pictures are, the records of the vsync are written, and where it fails a prefix of them.
-    ensures some { OnOk result (WritesVsync shows.now.plan shows.now.timelines.items handler.now.tree.layers report (K.taken sink.old) (K.taken sink.new)) }
-    ensures cut { OnErr result (CutsVsync shows.now.plan shows.now.timelines.items handler.now.tree.layers report (K.taken sink.old) (K.taken sink.new)) }
-    ensures later { K.faults sink.old ≤ K.faults sink.new }
-    ensures failed { IsErrOf result RunFault.WriteFault → Rose (K.faults sink.old) (K.faults sink.new) }
+    ensures ended { VsyncEnded K.taken K.faults shows.now handler.now report sink.old sink.new result }
 {
     let views = match vsync_views(engine.alloc, &shows.plan, handler, &report) {
         Ok(views) => views,

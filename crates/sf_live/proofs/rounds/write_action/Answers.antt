@@ -41,8 +41,8 @@ returns-in-Vsync g c =
           (c.show_vsync.ensures.err (picture_at scene.pictures) (expected_told scene c.args.shows.now.plan c.args.player.now c.handler.result.now tells c.handler.ensures.handler) shown) in
           subst (λ (t : Action). OnErr c.show_vsync.result (WritesPart (g.K.Sink.taken c.args.sink.now) (g.K.Sink.taken c.show_vsync.new.sink) (action_written (picture_at scene.pictures) c.args.shows.now.plan c.args.shows.now.timelines.items c.args.player.now t)))
           (sym c.in-Vsync.is) (rw c.handler.ensures.handler at cut));
-      later = c.show_vsync.ensures.later;
-      failed = c.show_vsync.ensures.failed;
+      later = c.show_vsync.ensures.ended.later;
+      failed = c.show_vsync.ensures.ended.failed;
     }
 
 pub returns-in-Step : goal.returns-in-Step

@@ -98,6 +98,6 @@ returns-in-Vsync g c =
           c.handler.ensures.handler
           (subst (λ (r : VsyncReport). OnErr result (WritesPart old new (vsync_shown (picture_at scene.pictures) shows.plan shows.timelines.items r c.handler.result.now.tree.layers)))
           c.into_report.ensures (c.show_vsync.ensures.err (picture_at scene.pictures) expected shown))));
-      later = c.show_vsync.ensures.later;
-      failed = c.show_vsync.ensures.failed;
+      later = c.show_vsync.ensures.ended.later;
+      failed = c.show_vsync.ensures.ended.failed;
     }

@@ -1,4 +1,4 @@
-use Rattle.std.proofs.Common.{ℕ, ◌≤◌, List, sym, subst, ◌∙◌, OnErr, OnOk}
+use Rattle.std.proofs.Common.{ℕ, ◌≤◌, List, arith, sym, subst, ◌∙◌, OnErr, OnOk}
 use Rattle.std.specs.Prelude.{All}
 use Rattle.std.proofs.lemmas.List.{map-id}
 use Rattle.sf_output_screen.specs.sf_picture.declared.picture.Picture.{Picture}
@@ -12,8 +12,13 @@ use Rattle.sf_play_write.proofs.vsync.show_vsync.Goals as goal
 pub returns-in-Err-clause-err : goal.returns-in-Err-clause-err
 returns-in-Err-clause-err g c = λ pictures expected shown. part_none (g.K.Sink.taken c.args.sink.now) _
 
-pub returns-in-Err-clause-cut : goal.returns-in-Err-clause-cut
-returns-in-Err-clause-cut g c = vsync_unbegun c.args.shows.now.plan c.args.shows.now.timelines.items c.args.handler.now.tree.layers c.args.report (g.K.Sink.taken c.args.sink.now)
+pub returns-in-Err-clause-ended : goal.returns-in-Err-clause-ended
+returns-in-Err-clause-ended g c = record {
+  ok = tt;
+  err = vsync_unbegun c.args.shows.now.plan c.args.shows.now.timelines.items c.args.handler.now.tree.layers c.args.report (g.K.Sink.taken c.args.sink.now);
+  later = omega arith;
+  failed = λ fails. absurd (cc fails);
+}
 
 pub compose_views-requires-clause-readable : goal.compose_views-requires-clause-readable
 compose_views-requires-clause-readable g c = λ lives outlives.
@@ -25,8 +30,13 @@ write_vsync-requires-clause-timelines g c = subst (All (λ (timeline : ℕ). (1 
 pub returns-in-Err-compose_views-clause-err : goal.returns-in-Err-compose_views-clause-err
 returns-in-Err-compose_views-clause-err g c = λ pictures expected shown. part_none (g.K.Sink.taken c.args.sink.now) _
 
-pub returns-in-Err-compose_views-clause-cut : goal.returns-in-Err-compose_views-clause-cut
-returns-in-Err-compose_views-clause-cut g c = vsync_unbegun c.args.shows.now.plan c.args.shows.now.timelines.items c.args.handler.now.tree.layers c.args.report (g.K.Sink.taken c.args.sink.now)
+pub returns-in-Err-compose_views-clause-ended : goal.returns-in-Err-compose_views-clause-ended
+returns-in-Err-compose_views-clause-ended g c = record {
+  ok = tt;
+  err = vsync_unbegun c.args.shows.now.plan c.args.shows.now.timelines.items c.args.handler.now.tree.layers c.args.report (g.K.Sink.taken c.args.sink.now);
+  later = omega arith;
+  failed = λ fails. absurd (cc fails);
+}
 
 pub returns-in-Ok-compose_views-clause-ok : goal.returns-in-Ok-compose_views-clause-ok
 returns-in-Ok-compose_views-clause-ok g c = λ pictures expected was.
@@ -47,22 +57,18 @@ returns-in-Ok-compose_views-clause-err g c = λ pictures expected was.
     (vsync_cut c.write_vsync.result _ _ pictures c.args.shows.now.plan c.deref.result.now c.args.report c.args.handler.now.tree.layers c.in-Ok.views.items c.in-Ok-compose_views.images.items
     c.in-Ok.ensures.due (c.in-Ok-compose_views.ensures.images.composed pictures finds was) c.write_vsync.ensures.wrote.err)
 
-pub returns-in-Ok-compose_views-clause-some : goal.returns-in-Ok-compose_views-clause-some
-returns-in-Ok-compose_views-clause-some g c =
-    subst (λ (timelines : List ℕ). OnOk c.write_vsync.result (WritesVsync c.args.shows.now.plan timelines c.args.handler.now.tree.layers c.args.report (g.K.Sink.taken c.args.sink.now) (g.K.Sink.taken c.write_vsync.new.sink)))
-    c.deref.ensures.value
-    (told_if c.write_vsync.result (vsync_told c.args.shows.now.plan c.deref.result.now c.args.handler.now.tree.layers c.args.report _ _ c.in-Ok.views.items c.in-Ok-compose_views.images.items
-    c.in-Ok.ensures.due c.in-Ok-compose_views.ensures.images.outputs) c.write_vsync.ensures.wrote.ok)
-
-pub returns-in-Ok-compose_views-clause-cut : goal.returns-in-Ok-compose_views-clause-cut
-returns-in-Ok-compose_views-clause-cut g c =
-    subst (λ (timelines : List ℕ). OnErr c.write_vsync.result (CutsVsync c.args.shows.now.plan timelines c.args.handler.now.tree.layers c.args.report (g.K.Sink.taken c.args.sink.now) (g.K.Sink.taken c.write_vsync.new.sink)))
-    c.deref.ensures.value
-    (begun_if c.write_vsync.result (vsync_begun c.args.shows.now.plan c.deref.result.now c.args.handler.now.tree.layers c.args.report _ _ c.in-Ok.views.items c.in-Ok-compose_views.images.items
-    c.in-Ok.ensures.due c.in-Ok-compose_views.ensures.images.outputs) c.write_vsync.ensures.wrote.err)
-
-pub returns-in-Ok-compose_views-clause-later : goal.returns-in-Ok-compose_views-clause-later
-returns-in-Ok-compose_views-clause-later g c = c.write_vsync.ensures.wrote.later
-
-pub returns-in-Ok-compose_views-clause-failed : goal.returns-in-Ok-compose_views-clause-failed
-returns-in-Ok-compose_views-clause-failed g c = c.write_vsync.ensures.wrote.failed
+pub returns-in-Ok-compose_views-clause-ended : goal.returns-in-Ok-compose_views-clause-ended
+returns-in-Ok-compose_views-clause-ended g c =
+    let wrote = c.write_vsync.ensures.wrote in
+    record {
+      ok = subst (λ (timelines : List ℕ). OnOk c.write_vsync.result (WritesVsync c.args.shows.now.plan timelines c.args.handler.now.tree.layers c.args.report (g.K.Sink.taken c.args.sink.now) (g.K.Sink.taken c.write_vsync.new.sink)))
+          c.deref.ensures.value
+          (told_if c.write_vsync.result (vsync_told c.args.shows.now.plan c.deref.result.now c.args.handler.now.tree.layers c.args.report _ _ c.in-Ok.views.items c.in-Ok-compose_views.images.items
+          c.in-Ok.ensures.due c.in-Ok-compose_views.ensures.images.outputs) wrote.ok);
+      err = subst (λ (timelines : List ℕ). OnErr c.write_vsync.result (CutsVsync c.args.shows.now.plan timelines c.args.handler.now.tree.layers c.args.report (g.K.Sink.taken c.args.sink.now) (g.K.Sink.taken c.write_vsync.new.sink)))
+          c.deref.ensures.value
+          (begun_if c.write_vsync.result (vsync_begun c.args.shows.now.plan c.deref.result.now c.args.handler.now.tree.layers c.args.report _ _ c.in-Ok.views.items c.in-Ok-compose_views.images.items
+          c.in-Ok.ensures.due c.in-Ok-compose_views.ensures.images.outputs) wrote.err);
+      later = wrote.later;
+      failed = wrote.failed;
+    }

@@ -39,7 +39,7 @@ returns-in-Ok-clause-kept g c = λ start kept.
     let old : Sitting g.row.B.Denot = record { handler = self.decider.handler; seats = c.args.first.now.seats; number = self.vsyncs } in
     let new : Sitting g.row.B.Denot = record { handler = now.decider.handler; seats = c.show_next.new.seats; number = now.vsyncs } in
     let counted = c.in-Ok.ensures.makes.vsync.counted in
-    let faults = c.show_next.ensures.later in
+    let faults = c.show_next.ensures.ended.later in
     let rose = kept.faults_rise in
     record {
       same = record {
@@ -53,7 +53,7 @@ returns-in-Ok-clause-kept g c = λ start kept.
         set = kept.log.set;
         sits =
             sits_behind _ g.B.TableName.table c.args.locks.now self.period plan most timelines (g.K.Sink.taken start.sink.now) (g.K.Sink.taken self.sink.now) self.screens old
-            (g.K.Sink.taken now.sink.now) now.screens self.due new report kept.log.sits c.in-Ok.ensures.written c.in-Ok.ensures.told c.in-Ok.ensures.makes c.in-Ok.ensures.stage;
+            (g.K.Sink.taken now.sink.now) now.screens self.due new report kept.log.sits c.in-Ok.ensures.written c.in-Ok.ensures.ended.ok c.in-Ok.ensures.makes c.in-Ok.ensures.stage;
         may = c.in-Ok.ensures.may;
       });
       faults_rise = omega (arith, rose, faults);
@@ -65,7 +65,7 @@ returns-in-Err-clause-ended g c = λ start kept.
     let now = c.show_next.new.self in
     let same = c.show_next.ensures.same in
     let old : Sitting g.row.B.Denot = record { handler = self.decider.handler; seats = c.args.first.now.seats; number = self.vsyncs } in
-    let faults = c.show_next.ensures.later in
+    let faults = c.show_next.ensures.ended.later in
     let rose = kept.faults_rise in
     record {
       same = record {
@@ -77,8 +77,8 @@ returns-in-Err-clause-ended g c = λ start kept.
       cut = cut_so self.period start.period self.shows.plan start.shows.plan start.decider.handler.tree.most self.shows.timelines.items start.shows.timelines.items kept.same.period
           (ap (λ (s : Shows). s.plan) kept.same.shows) (ap (λ (s : Shows). s.timelines.items) kept.same.shows)
           (cut_due _ g.B.TableName.table c.args.locks.now self.period self.shows.plan start.decider.handler.tree.most self.shows.timelines.items (g.K.Sink.taken start.sink.now) (g.K.Sink.taken self.sink.now) self.screens old
-          self.due (g.K.Sink.taken now.sink.now) kept.log.sits c.in-Err.ensures.cut);
+          self.due (g.K.Sink.taken now.sink.now) kept.log.sits c.in-Err.ensures.ended.err);
       faults_rise = omega (arith, rose, faults);
       failed = λ is. rose_since (g.K.Sink.faults start.sink.now) (g.K.Sink.faults self.sink.now) (g.K.Sink.faults now.sink.now) rose
-          (c.show_next.ensures.failed (c.in-Err.is ∙ ap (λ (f : RunFault). Err f) (same_fault c.in-Err.fault is)));
+          (c.show_next.ensures.ended.failed (c.in-Err.is ∙ ap (λ (f : RunFault). Err f) (same_fault c.in-Err.fault is)));
     }

@@ -13,7 +13,7 @@ returns-in-Ok-clause-kept g c = λ start locks first was.
     let timelines = self.shows.timelines.items in
     let due = sym c.in-Some.is ∙ c.take.ensures.value in
     let sitting : Sitting g.row.B.Denot = record { handler = self.decider.handler; seats = first.seats; number = self.vsyncs } in
-    let faults = c.show_vsync.ensures.later in
+    let faults = c.show_vsync.ensures.ended.later in
     let rose = was.faults_rise in (
       record {
         same = record { workers = was.same.workers; shows = was.same.shows; period = was.same.period; sink = was.same.sink };
@@ -25,7 +25,7 @@ returns-in-Ok-clause-kept g c = λ start locks first was.
               (sits_then _ g.B.TableName.table locks self.period plan start.decider.handler.tree.most timelines (g.K.Sink.taken start.sink.now) (g.K.Sink.taken self.sink.now) self.screens sitting
               (g.K.Sink.taken c.show_vsync.new.sink) c.show_vsync.new.screens self.due was.log.sits
               (written_by plan (g.K.Sink.taken self.sink.now) (g.K.Sink.taken c.show_vsync.new.sink) self.screens c.show_vsync.new.screens self.decider.handler timelines timelines (Some c.in-Some.report) self.due refl due c.in-Ok.ensures.ok)
-              (told_by plan (g.K.Sink.taken self.sink.now) (g.K.Sink.taken c.show_vsync.new.sink) self.decider.handler timelines timelines (Some c.in-Some.report) self.due refl due c.in-Ok.ensures.some));
+              (told_by plan (g.K.Sink.taken self.sink.now) (g.K.Sink.taken c.show_vsync.new.sink) self.decider.handler timelines timelines (Some c.in-Some.report) self.due refl due c.in-Ok.ensures.ended.ok));
           may = was.log.may;
         };
         faults_rise = omega (arith, rose, faults);
@@ -40,7 +40,7 @@ returns-in-Err-clause-ended g c = λ start locks first was.
     let timelines = self.shows.timelines.items in
     let due = sym c.in-Some.is ∙ c.take.ensures.value in
     let sitting : Sitting g.row.B.Denot = record { handler = self.decider.handler; seats = first.seats; number = self.vsyncs } in
-    let faults = c.show_vsync.ensures.later in
+    let faults = c.show_vsync.ensures.ended.later in
     let rose = was.faults_rise in
     record {
       same = record { workers = was.same.workers; shows = was.same.shows; period = was.same.period; sink = was.same.sink };
@@ -48,8 +48,8 @@ returns-in-Err-clause-ended g c = λ start locks first was.
           (ap (λ (s : Shows). s.plan) was.same.shows) (ap (λ (s : Shows). s.timelines.items) was.same.shows)
           (cut_due _ g.B.TableName.table locks self.period plan start.decider.handler.tree.most timelines (g.K.Sink.taken start.sink.now) (g.K.Sink.taken self.sink.now) self.screens sitting
           self.due (g.K.Sink.taken c.show_vsync.new.sink) was.log.sits
-          (cut_by plan (g.K.Sink.taken self.sink.now) (g.K.Sink.taken c.show_vsync.new.sink) self.decider.handler timelines timelines (Some c.in-Some.report) self.due refl due c.in-Err.ensures.cut));
+          (cut_by plan (g.K.Sink.taken self.sink.now) (g.K.Sink.taken c.show_vsync.new.sink) self.decider.handler timelines timelines (Some c.in-Some.report) self.due refl due c.in-Err.ensures.ended.err));
       faults_rise = omega (arith, rose, faults);
       failed = λ is. rose_since (g.K.Sink.faults start.sink.now) (g.K.Sink.faults self.sink.now) (g.K.Sink.faults c.show_vsync.new.sink) rose
-          (c.show_vsync.ensures.failed (c.in-Err.is ∙ ap (λ (f : RunFault). Err f) (same_fault c.in-Err.fault is)));
+          (c.show_vsync.ensures.ended.failed (c.in-Err.is ∙ ap (λ (f : RunFault). Err f) (same_fault c.in-Err.fault is)));
     }

@@ -40,68 +40,6 @@ returns-in-Err-made-clause-same g c = let same = c.make_behind-composed.ensures.
 pub returns-in-Ok-made-clause-same : goal.returns-in-Ok-made-clause-same
 returns-in-Ok-made-clause-same g c = let same = c.make_behind-composed.ensures.same in record { workers = same.workers; shows = same.shows; period = same.period; sink = same.sink }
 
-pub returns-in_default-clause-later : goal.returns-in_default-clause-later
-returns-in_default-clause-later g c = subst (λ s. g.K.Sink.faults c.args.self.now.sink.now ≤ g.K.Sink.faults s.now) (sym c.make_behind-composed.ensures.sink) (omega arith)
-
-pub returns-in-Err-write_vsync-clause-later : goal.returns-in-Err-write_vsync-clause-later
-returns-in-Err-write_vsync-clause-later g c = subst (λ s. g.K.Sink.faults s.now ≤ g.K.Sink.faults c.write_vsync.new.sink) c.make_behind-composed.ensures.sink c.write_vsync.ensures.wrote.later
-
-pub returns-in-Err-made-clause-later : goal.returns-in-Err-made-clause-later
-returns-in-Err-made-clause-later g c = subst (λ s. g.K.Sink.faults s.now ≤ g.K.Sink.faults c.write_vsync.new.sink) c.make_behind-composed.ensures.sink c.write_vsync.ensures.wrote.later
-
-pub returns-in-Ok-made-clause-later : goal.returns-in-Ok-made-clause-later
-returns-in-Ok-made-clause-later g c = subst (λ s. g.K.Sink.faults s.now ≤ g.K.Sink.faults c.write_vsync.new.sink) c.make_behind-composed.ensures.sink c.write_vsync.ensures.wrote.later
-
-pub returns-in-Err-write_vsync-clause-failed : goal.returns-in-Err-write_vsync-clause-failed
-returns-in-Err-write_vsync-clause-failed g c = λ is.
-    subst (λ s. Rose (g.K.Sink.faults s.now) (g.K.Sink.faults c.write_vsync.new.sink)) c.make_behind-composed.ensures.sink (c.write_vsync.ensures.wrote.failed (c.in-Err-write_vsync.is ∙ ap (λ (f : RunFault). Err f) (err_fault c.in-Err-write_vsync.fault is)))
-
-pub returns-in-Err-clause-cut : goal.returns-in-Err-clause-cut
-returns-in-Err-clause-cut g c =
-    let self = c.args.self.now in
-    vsync_unbegun self.shows.plan self.shows.timelines.items self.decider.handler.tree.layers c.args.last (g.K.Sink.taken self.sink.now)
-
-pub returns-in_default-clause-cut : goal.returns-in_default-clause-cut
-returns-in_default-clause-cut g c =
-    let self = c.args.self.now in
-    let layers = self.decider.handler.tree.layers in
-    subst (λ s. CutsVsync self.shows.plan self.shows.timelines.items layers c.args.last (g.K.Sink.taken self.sink.now) (g.K.Sink.taken s.now)) (sym c.make_behind-composed.ensures.sink)
-    (vsync_unbegun self.shows.plan self.shows.timelines.items layers c.args.last (g.K.Sink.taken self.sink.now))
-
-pub returns-in-Err-write_vsync-clause-cut : goal.returns-in-Err-write_vsync-clause-cut
-returns-in-Err-write_vsync-clause-cut g c =
-    let self = c.args.self.now in
-    let mid = c.make_behind-composed in
-    let layers = self.decider.handler.tree.layers in
-    let all = if_ok mid.result.0 c.in-Ok-composed.images (λ images. AreImagesOf (map expected_by self.decider.handler.on) c.in-Ok.views.items self.screens images.items) c.in-Ok-composed.is mid.ensures.images in
-    let timelines = c.deref.ensures.value ∙ ap (λ (s : Shows). s.timelines.items) mid.ensures.same.shows in
-    subst (λ s. CutsVsync self.shows.plan self.shows.timelines.items layers c.args.last (g.K.Sink.taken s.now) (g.K.Sink.taken c.write_vsync.new.sink)) mid.ensures.sink
-    (subst (λ (ts : List ℕ). CutsVsync self.shows.plan ts layers c.args.last (g.K.Sink.taken mid.new.self.sink.now) (g.K.Sink.taken c.write_vsync.new.sink)) timelines
-    (vsync_begun self.shows.plan c.deref.result.now layers c.args.last _ _ c.in-Ok.views.items c.in-Ok-composed.images.items c.in-Ok.ensures.due all.outputs c.in-Err-write_vsync.ensures.wrote.err))
-
-pub returns-in-Err-made-clause-cut : goal.returns-in-Err-made-clause-cut
-returns-in-Err-made-clause-cut g c =
-    let self = c.args.self.now in
-    let mid = c.make_behind-composed in
-    let layers = self.decider.handler.tree.layers in
-    let all = if_ok mid.result.0 c.in-Ok-composed.images (λ images. AreImagesOf (map expected_by self.decider.handler.on) c.in-Ok.views.items self.screens images.items) c.in-Ok-composed.is mid.ensures.images in
-    let timelines = c.deref.ensures.value ∙ ap (λ (s : Shows). s.timelines.items) mid.ensures.same.shows in
-    subst (λ s. CutsVsync self.shows.plan self.shows.timelines.items layers c.args.last (g.K.Sink.taken s.now) (g.K.Sink.taken c.write_vsync.new.sink)) mid.ensures.sink
-    (subst (λ (ts : List ℕ). CutsVsync self.shows.plan ts layers c.args.last (g.K.Sink.taken mid.new.self.sink.now) (g.K.Sink.taken c.write_vsync.new.sink)) timelines
-    (vsync_whole self.shows.plan c.deref.result.now layers c.args.last _ _
-    (vsync_told self.shows.plan c.deref.result.now layers c.args.last _ _ c.in-Ok.views.items c.in-Ok-composed.images.items c.in-Ok.ensures.due all.outputs c.in-Ok-write_vsync.ensures.wrote.ok)))
-
-pub returns-in-Ok-made-clause-told : goal.returns-in-Ok-made-clause-told
-returns-in-Ok-made-clause-told g c =
-    let self = c.args.self.now in
-    let mid = c.make_behind-composed in
-    let layers = self.decider.handler.tree.layers in
-    let all = if_ok mid.result.0 c.in-Ok-composed.images (λ images. AreImagesOf (map expected_by self.decider.handler.on) c.in-Ok.views.items self.screens images.items) c.in-Ok-composed.is mid.ensures.images in
-    let timelines = c.deref.ensures.value ∙ ap (λ (s : Shows). s.timelines.items) mid.ensures.same.shows in
-    subst (λ s. WritesVsync self.shows.plan self.shows.timelines.items layers c.args.last (g.K.Sink.taken s.now) (g.K.Sink.taken c.write_vsync.new.sink)) mid.ensures.sink
-    (subst (λ (ts : List ℕ). WritesVsync self.shows.plan ts layers c.args.last (g.K.Sink.taken mid.new.self.sink.now) (g.K.Sink.taken c.write_vsync.new.sink)) timelines
-    (vsync_told self.shows.plan c.deref.result.now layers c.args.last _ _ c.in-Ok.views.items c.in-Ok-composed.images.items c.in-Ok.ensures.due all.outputs c.in-Ok-write_vsync.ensures.wrote.ok))
-
 pub returns-in-Ok-made-clause-written : goal.returns-in-Ok-made-clause-written
 returns-in-Ok-made-clause-written g c = λ pictures expected was.
     let self = c.args.self.now in
@@ -137,3 +75,75 @@ returns-in-Ok-made-clause-may g c =
     let new : Sitting g.row.B.Denot = record { handler = made.new.self.decider.handler; seats = made.new.seats; number = made.new.self.vsyncs } in
     let makes = if_ok made.result.1 c.in-Ok-made.made (λ made. MakesVsync _ g.B.TableName.table c.args.locks.now self.period old new made.report) c.in-Ok-made.is made.ensures.makes in
     sits_on _ g.B.TableName.table c.args.locks.now self.period self.shows.plan old new c.in-Ok-made.made.report makes c.requires.next.may made.ensures.all (on_ok made.result.1 c.in-Ok-made.made c.in-Ok-made.is made.ensures.known) (on_ok made.result.1 c.in-Ok-made.made c.in-Ok-made.is made.ensures.early)
+
+pub returns-in-Err-clause-ended : goal.returns-in-Err-clause-ended
+returns-in-Err-clause-ended g c =
+    let self = c.args.self.now in
+    record {
+      ok = tt;
+      err = vsync_unbegun self.shows.plan self.shows.timelines.items self.decider.handler.tree.layers c.args.last (g.K.Sink.taken self.sink.now);
+      later = omega arith;
+      failed = λ fails. absurd (cc fails);
+    }
+
+pub returns-in_default-clause-ended : goal.returns-in_default-clause-ended
+returns-in_default-clause-ended g c =
+    let self = c.args.self.now in
+    let layers = self.decider.handler.tree.layers in
+    record {
+      ok = tt;
+      err = subst (λ s. CutsVsync self.shows.plan self.shows.timelines.items layers c.args.last (g.K.Sink.taken self.sink.now) (g.K.Sink.taken s.now)) (sym c.make_behind-composed.ensures.sink)
+          (vsync_unbegun self.shows.plan self.shows.timelines.items layers c.args.last (g.K.Sink.taken self.sink.now));
+      later = subst (λ s. g.K.Sink.faults self.sink.now ≤ g.K.Sink.faults s.now) (sym c.make_behind-composed.ensures.sink) (omega arith);
+      failed = λ fails. absurd (cc fails);
+    }
+
+pub returns-in-Err-write_vsync-clause-ended : goal.returns-in-Err-write_vsync-clause-ended
+returns-in-Err-write_vsync-clause-ended g c =
+    let self = c.args.self.now in
+    let mid = c.make_behind-composed in
+    let layers = self.decider.handler.tree.layers in
+    let all = if_ok mid.result.0 c.in-Ok-composed.images (λ images. AreImagesOf (map expected_by self.decider.handler.on) c.in-Ok.views.items self.screens images.items) c.in-Ok-composed.is mid.ensures.images in
+    let timelines = c.deref.ensures.value ∙ ap (λ (s : Shows). s.timelines.items) mid.ensures.same.shows in
+    record {
+      ok = tt;
+      err = subst (λ s. CutsVsync self.shows.plan self.shows.timelines.items layers c.args.last (g.K.Sink.taken s.now) (g.K.Sink.taken c.write_vsync.new.sink)) mid.ensures.sink
+          (subst (λ (ts : List ℕ). CutsVsync self.shows.plan ts layers c.args.last (g.K.Sink.taken mid.new.self.sink.now) (g.K.Sink.taken c.write_vsync.new.sink)) timelines
+          (vsync_begun self.shows.plan c.deref.result.now layers c.args.last _ _ c.in-Ok.views.items c.in-Ok-composed.images.items c.in-Ok.ensures.due all.outputs c.in-Err-write_vsync.ensures.wrote.err));
+      later = subst (λ s. g.K.Sink.faults s.now ≤ g.K.Sink.faults c.write_vsync.new.sink) mid.ensures.sink c.write_vsync.ensures.wrote.later;
+      failed = λ is. subst (λ s. Rose (g.K.Sink.faults s.now) (g.K.Sink.faults c.write_vsync.new.sink)) mid.ensures.sink
+          (c.write_vsync.ensures.wrote.failed (c.in-Err-write_vsync.is ∙ ap (λ (f : RunFault). Err f) (err_fault c.in-Err-write_vsync.fault is)));
+    }
+
+pub returns-in-Err-made-clause-ended : goal.returns-in-Err-made-clause-ended
+returns-in-Err-made-clause-ended g c =
+    let self = c.args.self.now in
+    let mid = c.make_behind-composed in
+    let layers = self.decider.handler.tree.layers in
+    let all = if_ok mid.result.0 c.in-Ok-composed.images (λ images. AreImagesOf (map expected_by self.decider.handler.on) c.in-Ok.views.items self.screens images.items) c.in-Ok-composed.is mid.ensures.images in
+    let timelines = c.deref.ensures.value ∙ ap (λ (s : Shows). s.timelines.items) mid.ensures.same.shows in
+    record {
+      ok = tt;
+      err = subst (λ s. CutsVsync self.shows.plan self.shows.timelines.items layers c.args.last (g.K.Sink.taken s.now) (g.K.Sink.taken c.write_vsync.new.sink)) mid.ensures.sink
+          (subst (λ (ts : List ℕ). CutsVsync self.shows.plan ts layers c.args.last (g.K.Sink.taken mid.new.self.sink.now) (g.K.Sink.taken c.write_vsync.new.sink)) timelines
+          (vsync_whole self.shows.plan c.deref.result.now layers c.args.last _ _
+          (vsync_told self.shows.plan c.deref.result.now layers c.args.last _ _ c.in-Ok.views.items c.in-Ok-composed.images.items c.in-Ok.ensures.due all.outputs c.in-Ok-write_vsync.ensures.wrote.ok)));
+      later = subst (λ s. g.K.Sink.faults s.now ≤ g.K.Sink.faults c.write_vsync.new.sink) mid.ensures.sink c.write_vsync.ensures.wrote.later;
+      failed = λ fails. absurd (cc fails);
+    }
+
+pub returns-in-Ok-made-clause-ended : goal.returns-in-Ok-made-clause-ended
+returns-in-Ok-made-clause-ended g c =
+    let self = c.args.self.now in
+    let mid = c.make_behind-composed in
+    let layers = self.decider.handler.tree.layers in
+    let all = if_ok mid.result.0 c.in-Ok-composed.images (λ images. AreImagesOf (map expected_by self.decider.handler.on) c.in-Ok.views.items self.screens images.items) c.in-Ok-composed.is mid.ensures.images in
+    let timelines = c.deref.ensures.value ∙ ap (λ (s : Shows). s.timelines.items) mid.ensures.same.shows in
+    record {
+      ok = subst (λ s. WritesVsync self.shows.plan self.shows.timelines.items layers c.args.last (g.K.Sink.taken s.now) (g.K.Sink.taken c.write_vsync.new.sink)) mid.ensures.sink
+          (subst (λ (ts : List ℕ). WritesVsync self.shows.plan ts layers c.args.last (g.K.Sink.taken mid.new.self.sink.now) (g.K.Sink.taken c.write_vsync.new.sink)) timelines
+          (vsync_told self.shows.plan c.deref.result.now layers c.args.last _ _ c.in-Ok.views.items c.in-Ok-composed.images.items c.in-Ok.ensures.due all.outputs c.in-Ok-write_vsync.ensures.wrote.ok));
+      err = tt;
+      later = subst (λ s. g.K.Sink.faults s.now ≤ g.K.Sink.faults c.write_vsync.new.sink) mid.ensures.sink c.write_vsync.ensures.wrote.later;
+      failed = λ fails. absurd (cc fails);
+    }

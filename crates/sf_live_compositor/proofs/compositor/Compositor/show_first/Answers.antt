@@ -1,4 +1,4 @@
-use Rattle.std.proofs.Common.{◌≡◌, ◌<◌, false, ap, arith, ◌∙◌}
+use Rattle.std.proofs.Common.{◌≡◌, false, ap, ◌∙◌}
 use Rattle.sf_live_threads.specs.sf_commit.Handlers.{HandlerOf}
 use Rattle.sf_live_threads.specs.sf_surface.Tokens.{ReadLeaseOf}
 use Rattle.sf_live_compositor.specs.Sitting.{MakesVsync}

@@ -18,25 +18,6 @@ returns-in-None-clause-written g c =
     (subst (λ (due : Option VsyncReport). WritesDue self.shows.plan self.shows.timelines.items (g.K.Sink.taken self.sink.now) (g.K.Sink.taken new.sink.now) self.screens new.screens self.decider.handler due)
     (sym c.in-None.is ∙ c.take.ensures.value) (ap (λ s. g.K.Sink.taken s.now) c.show_first.ensures.sink, c.show_first.ensures.shown))
 
-pub returns-in-None-clause-told : goal.returns-in-None-clause-told
-returns-in-None-clause-told g c =
-    let self = c.args.self.now in
-    let new = c.show_first.new.self in
-    on_any c.show_first.result
-    (subst (λ (due : Option VsyncReport). TellsDue self.shows.plan self.shows.timelines.items (g.K.Sink.taken self.sink.now) (g.K.Sink.taken new.sink.now) self.decider.handler due)
-    (sym c.in-None.is ∙ c.take.ensures.value) (ap (λ s. g.K.Sink.taken s.now) c.show_first.ensures.sink))
-
-pub returns-in-None-clause-cut : goal.returns-in-None-clause-cut
-returns-in-None-clause-cut g c =
-    let self = c.args.self.now in
-    let new = c.show_first.new.self in
-    on_fault c.show_first.result
-    (subst (λ (due : Option VsyncReport). CutsDue self.shows.plan self.shows.timelines.items (g.K.Sink.taken self.sink.now) (g.K.Sink.taken new.sink.now) self.decider.handler due)
-    (sym c.in-None.is ∙ c.take.ensures.value) (ap (λ s. g.K.Sink.taken s.now) c.show_first.ensures.sink))
-
-pub returns-in-None-clause-later : goal.returns-in-None-clause-later
-returns-in-None-clause-later g c = subst (λ s. g.K.Sink.faults c.args.self.now.sink.now ≤ g.K.Sink.faults s.now) (sym c.show_first.ensures.sink) (omega arith)
-
 pub show_behind-requires-clause-stage : goal.show_behind-requires-clause-stage
 show_behind-requires-clause-stage g c κs within =
     let self = c.args.self.now in
@@ -52,16 +33,33 @@ returns-in-Some-clause-written g c =
     subst (λ (due : Option VsyncReport). OnOk c.show_behind.result (WritesDue self.shows.plan self.shows.timelines.items (g.K.Sink.taken self.sink.now) (g.K.Sink.taken new.sink.now) self.screens new.screens self.decider.handler due))
     (sym c.in-Some.is ∙ c.take.ensures.value) c.show_behind.ensures.written
 
-pub returns-in-Some-clause-told : goal.returns-in-Some-clause-told
-returns-in-Some-clause-told g c =
+pub returns-in-None-clause-ended : goal.returns-in-None-clause-ended
+returns-in-None-clause-ended g c =
     let self = c.args.self.now in
-    let new = c.show_behind.new.self in
-    subst (λ (due : Option VsyncReport). OnOk c.show_behind.result (TellsDue self.shows.plan self.shows.timelines.items (g.K.Sink.taken self.sink.now) (g.K.Sink.taken new.sink.now) self.decider.handler due))
-    (sym c.in-Some.is ∙ c.take.ensures.value) c.show_behind.ensures.told
+    let new = c.show_first.new.self in
+    let none = sym c.in-None.is ∙ c.take.ensures.value in
+    record {
+      ok = on_any c.show_first.result
+          (subst (λ (due : Option VsyncReport). TellsDue self.shows.plan self.shows.timelines.items (g.K.Sink.taken self.sink.now) (g.K.Sink.taken new.sink.now) self.decider.handler due)
+          none (ap (λ s. g.K.Sink.taken s.now) c.show_first.ensures.sink));
+      err = on_fault c.show_first.result
+          (subst (λ (due : Option VsyncReport). CutsDue self.shows.plan self.shows.timelines.items (g.K.Sink.taken self.sink.now) (g.K.Sink.taken new.sink.now) self.decider.handler due)
+          none (ap (λ s. g.K.Sink.taken s.now) c.show_first.ensures.sink));
+      later = subst (λ s. g.K.Sink.faults self.sink.now ≤ g.K.Sink.faults s.now) (sym c.show_first.ensures.sink) (omega arith);
+      failed = λ fails. absurd (c.show_first.ensures.failed fails);
+    }
 
-pub returns-in-Some-clause-cut : goal.returns-in-Some-clause-cut
-returns-in-Some-clause-cut g c =
+pub returns-in-Some-clause-ended : goal.returns-in-Some-clause-ended
+returns-in-Some-clause-ended g c =
     let self = c.args.self.now in
     let new = c.show_behind.new.self in
-    subst (λ (due : Option VsyncReport). OnErr c.show_behind.result (CutsDue self.shows.plan self.shows.timelines.items (g.K.Sink.taken self.sink.now) (g.K.Sink.taken new.sink.now) self.decider.handler due))
-    (sym c.in-Some.is ∙ c.take.ensures.value) c.show_behind.ensures.cut
+    let last = sym c.in-Some.is ∙ c.take.ensures.value in
+    let ended = c.show_behind.ensures.ended in
+    record {
+      ok = subst (λ (due : Option VsyncReport). OnOk c.show_behind.result (TellsDue self.shows.plan self.shows.timelines.items (g.K.Sink.taken self.sink.now) (g.K.Sink.taken new.sink.now) self.decider.handler due))
+          last ended.ok;
+      err = subst (λ (due : Option VsyncReport). OnErr c.show_behind.result (CutsDue self.shows.plan self.shows.timelines.items (g.K.Sink.taken self.sink.now) (g.K.Sink.taken new.sink.now) self.decider.handler due))
+          last ended.err;
+      later = ended.later;
+      failed = ended.failed;
+    }
