@@ -1,8 +1,6 @@
 """Tests of what follows the clauses of the public call: which definitions they lead to, how many, and the page of them."""
 
-import os
 import re
-import tempfile
 import textwrap
 import unittest
 
@@ -11,6 +9,7 @@ from surbeldoi.build.citing import Sources
 from surbeldoi.build.definitions import Unread, read_code, read_specs
 from surbeldoi.build.rooms import read_rooms
 from tests.test_documents import text
+from tests.written import written_sources
 
 CRATES = """\
 # base: plain types. Uses no other room.
@@ -170,17 +169,8 @@ def in_lists(files):
 
 
 class Believed(unittest.TestCase):
-    def sources(self, files):
-        room = tempfile.TemporaryDirectory()
-        self.addCleanup(room.cleanup)
-        for path, written in files.items():
-            os.makedirs(os.path.dirname(os.path.join(room.name, path)), exist_ok=True)
-            with open(os.path.join(room.name, path), "w", encoding="utf-8") as file:
-                file.write(written)
-        return Sources(room.name)
-
     def names(self, files):
-        return [place.name for place in believed(self.sources(files))]
+        return [place.name for place in believed(written_sources(self, files))]
 
     def test_the_clause_leads_to_each_definition_that_it_rests_on_and_to_no_other(self):
         self.assertEqual(self.names(FILES), CITED)
@@ -216,7 +206,7 @@ class Believed(unittest.TestCase):
             self.assertEqual(str(raised.exception), why)
 
     def test_definitions_and_lines_are_counted(self):
-        sources = self.sources(FILES)
+        sources = written_sources(self, FILES)
         counts = counts_of(sources, believed(sources))
         self.assertEqual((counts.definitions, counts.silent), (11, 1))
         # Sink 5, Text 3, IsShown 3, Pixel 6, Kind 5, Word 6, Shows 6, darker 3, less 2, Form 5, over 3.
@@ -224,18 +214,18 @@ class Believed(unittest.TestCase):
         self.assertEqual(count_text(counts), "To believe the headline you read 11 definitions, 47 lines")
 
     def test_a_module_line_is_counted_once_for_what_stands_under_it(self):
-        sources = self.sources(FILES)
+        sources = written_sources(self, FILES)
         both = [place for place in map(lambda name: sources.named(("low", "specs", "Colours"), name), ("first", "second"))]
         self.assertEqual(counts_of(sources, both).lines, 1 + 4 + 3)
 
     def test_they_are_read_room_by_room_from_the_top_down(self):
-        sources = self.sources(FILES)
+        sources = written_sources(self, FILES)
         order = reading_order(sources, believed(sources), read_rooms(sources.top))
         self.assertEqual([[place.name for place in places] for places in order],
                          [["Shows", "IsShown"], ["Sink"], ["Text"], ["Pixel", "Kind"], ["Word"], ["darker", "less", "◌over◌", "Form"]])
 
     def test_each_name_on_the_page_is_a_link_to_its_definition_with_its_sentence(self):
-        told = page(self.sources(FILES).top)
+        told = page(written_sources(self, FILES).top)
         anchors, links = re.findall(r'id="([^"]*)"', told), re.findall(r'href="#([^"]*)"', told)
         self.assertEqual(len(anchors), len(set(anchors)))
         self.assertEqual(set(links) - set(anchors), set())

@@ -1,11 +1,10 @@
 """Tests of what tells modules of specs/ that public contracts lead to from those that only private ones cite."""
 
-import os
-import tempfile
 import unittest
 
 from surbeldoi.build.citing import Sources
 from surbeldoi.build.reached import misplaced, reached
+from tests.written import written_sources
 
 
 def specs(name, by="n", head=""):
@@ -96,18 +95,9 @@ impl Drop for Row {
 
 
 class Reached(unittest.TestCase):
-    def sources(self, files):
-        room = tempfile.TemporaryDirectory()
-        self.addCleanup(room.cleanup)
-        for path, written in files.items():
-            os.makedirs(os.path.dirname(os.path.join(room.name, path)), exist_ok=True)
-            with open(os.path.join(room.name, path), "w", encoding="utf-8") as file:
-                file.write(written)
-        return Sources(room.name)
-
     def test_public_contracts_lead_to_these_modules(self):
-        self.assertEqual(sorted(module for _, module in reached(self.sources(FILES))), ["Below", "Calls", "Members", "Steps", "Views"])
-        self.assertEqual(misplaced(self.sources(FILES)), [])
+        self.assertEqual(sorted(module for _, module in reached(written_sources(self, FILES))), ["Below", "Calls", "Members", "Steps", "Views"])
+        self.assertEqual(misplaced(written_sources(self, FILES)), [])
 
     def test_a_module_of_the_other_kind_is_told_with_where_it_goes(self):
         calls, size, root = (f"crates/low/src/{name}.rt" for name in ("calls", "size", "lib"))
@@ -123,7 +113,7 @@ class Reached(unittest.TestCase):
                 ("a public clause that cites another module", calls, "result ≡ called n", "result ≡ of_rows n", [out.format("Calls"), rows])):
             with self.subTest(title):
                 self.assertIn(old, FILES[path], title)
-                self.assertEqual(misplaced(self.sources({**FILES, path: FILES[path].replace(old, new)})), told, title)
+                self.assertEqual(misplaced(written_sources(self, {**FILES, path: FILES[path].replace(old, new)})), told, title)
 
     def test_each_module_of_the_repository_lies_where_it_belongs(self):
         self.assertEqual(misplaced(Sources()), [])
